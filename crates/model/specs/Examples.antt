@@ -1,0 +1,124 @@
+-- Closed cases that hold the definitions to document 01: the starred rows of its bench table, `closed-rows`; rows of our own that these cannot replace,
+-- `further`, `calls` and `files`; and the whole case of the grid program.
+use Prim.Native.Nat.{ℕ, _*_, _<_}
+use mathlib.Core.Path.{_≡_, refl}
+use mathlib.Core.Bool.{false}
+use mathlib.Core.List.{List, [], _∷_, map, reverse}
+use lib.Dec.{lit<}
+use lib.IntN.{ℤ, pos, negsuc, _*ℤ_}
+use lib.ListN.{length}
+use Rattle.model.specs.Lists.{tabulate}
+use Rattle.model.specs.Point.{Location, Point, State, point, location, surveyOf}
+use Rattle.model.specs.Distance.{distance}
+use Rattle.model.specs.Radius.{initialRadius}
+use Rattle.model.specs.Choice.{choice}
+use Rattle.model.specs.Influence.{influenceAt, kind}
+use Rattle.model.specs.Fraction.{Signed}
+use Rattle.model.specs.Mean.{mean}
+use Rattle.model.specs.Answer.{Neighbour, answer, chosenCount, neighbours}
+use Rattle.model.specs.SurveyFile.{fault}
+use Rattle.model.specs.Calls.{Add, Change, Drop, Clear, Load, Lookup, LookupNeighbours, refusal, fresh, present}
+use Rattle.model.specs.Program.{program}
+
+abbrev two : ℕ → ℕ → ℤ → ℕ → ℕ → ℤ → State
+two x y z u v w = surveyOf (point x y z ∷ point u v w ∷ [])
+
+abbrev five : State
+five = surveyOf (point 95 100 (pos 0) ∷ point 100 95 (pos 0) ∷ point 100 105 (pos 0) ∷ point 103 104 (pos 98) ∷ point 105 100 (pos 0) ∷ [])
+
+-- the twelve whole places at distance 5 from (100,100)
+abbrev ring : List Point
+ring =
+    point 95 100 (pos 1) ∷ point 96 97 (pos 2) ∷ point 96 103 (pos 3) ∷ point 97 96 (pos 4) ∷ point 97 104 (pos 5) ∷ point 100 95 (pos 6)
+    ∷ point 100 105 (pos 7) ∷ point 103 96 (pos 8) ∷ point 103 104 (pos 9) ∷ point 104 97 (pos 10) ∷ point 104 103 (pos 11) ∷ point 105 100 (pos 12)
+    ∷ []
+
+abbrev twelve : State
+twelve = surveyOf ring
+
+-- four in a row beside (100,100), and one farther off
+abbrev line : State
+line = surveyOf (point 101 100 (pos 0) ∷ point 102 100 (pos 0) ∷ point 103 100 (pos 0) ∷ point 104 100 (pos 0) ∷ point 110 100 (pos 0) ∷ [])
+
+abbrev middle : Location
+middle = location 100 100
+
+abbrev kinds : State → Location → List ℕ
+kinds s p = map (λ (n : Neighbour). n .kind) (neighbours s p)
+
+-- the mean is a / b
+abbrev pub Is : Signed → ℤ → ℕ → Type 0
+Is m a b = (m .top *ℤ pos b ≡ a *ℤ pos (m .bot)) × (0 < m .bot)
+
+-- the starred rows but the first, which is a law over every location
+abbrev pub StarredRows : Type 0
+StarredRows =
+    Is (mean (two 3 0 (pos 0) 6 0 (pos 90)) (location 0 0)) (pos 18) 1
+    × (answer (two 3 0 (pos 0) 6 0 (pos 90)) (location 0 0) ≡ pos 4608)
+    × Is (mean (two 0 0 (pos 0) 9 0 (pos 90)) (location 3 0)) (pos 70) 3
+    × (answer (two 0 0 (pos 0) 9 0 (pos 90)) (location 3 0) ≡ pos 5973)
+    × Is (mean (two 0 0 (pos 0) 10 0 (pos 10)) (location 5 0)) (pos 5) 1
+    × (answer (two 0 0 (pos 0) 10 0 (pos 10)) (location 5 0) ≡ pos 1280)
+    × (chosenCount five middle ≡ 5)
+    × (choice five middle .radius ≡ 1708)
+    × (kinds five middle ≡ 2 ∷ 2 ∷ 2 ∷ 2 ∷ 2 ∷ [])
+    × Is (mean five middle) (pos 18) 1
+    × (answer five middle ≡ pos 4608)
+    × (initialRadius twelve ≡ 1103)
+    × (chosenCount twelve middle ≡ 4)
+    × (choice twelve middle .radius ≡ 1280)
+    × (kinds twelve middle ≡ 3 ∷ 3 ∷ 3 ∷ 3 ∷ [])
+    × Is (mean twelve middle) (pos 5) 2
+    × (answer twelve middle ≡ pos 640)
+    × (map (λ d. kind (influenceAt false 1708 d)) (569 ∷ 570 ∷ 1707 ∷ 1708 ∷ []) ≡ 1 ∷ 2 ∷ 2 ∷ 3 ∷ [])
+    × (map (distance five (location 0 0)) (point 0 0 (pos 0) ∷ point 1 0 (pos 0) ∷ point 1 1 (pos 0) ∷ []) ≡ 0 ∷ 256 ∷ 362 ∷ [])
+
+pub closed-rows : StarredRows
+unfolding mean answer choice neighbours initialRadius influenceAt distance
+closed-rows =
+    ((refl, lit< tt), refl, (refl, lit< tt), refl, (refl, lit< tt), refl, refl, refl, refl, (refl, lit< tt), refl, refl, refl, refl, refl, (refl, lit< tt), refl, refl, refl)
+
+-- a cosine above 1, one below it, R of the first point left out, the twelve points in reverse, and corner to corner
+pub further : Is (mean (two 1 1 (pos 0) 2 2 (pos 100)) (location 0 0)) (pos 9829700) 491457
+    × Is (mean (two 1 1 (pos 0) 3 0 (pos 100)) (location 0 0)) (pos 443873540) 22664297
+    × (chosenCount line middle ≡ 4)
+    × (choice line middle .radius ≡ 2560)
+    × Is (mean (surveyOf (reverse ring)) middle) (pos 5) 2
+    × (distance five (location 0 0) (point 4095 4095 (pos 0)) ≡ 1482548)
+unfolding mean choice distance
+further = ((refl, lit< tt), (refl, lit< tt), refl, refl, (refl, lit< tt), refl)
+
+-- the first refusal that applies, and what a list of them leaves
+abbrev full : State
+full = surveyOf (tabulate (λ i. point i 0 (pos 0)) 256)
+
+pub calls : (refusal (Add 4096 0 (pos 128)) full ≡ 1)
+    × (refusal (Add 255 0 (pos 128)) full ≡ 2)
+    × (refusal (Add 255 0 (pos 127)) full ≡ 3)
+    × (refusal (Add 256 0 (pos 127)) full ≡ 5)
+    × (refusal (Change 5 5 (negsuc 128)) fresh ≡ 2)
+    × (refusal (Change 5 5 (negsuc 127)) fresh ≡ 4)
+    × (refusal (Drop 0 4095) fresh ≡ 4)
+    × (refusal (Lookup 0 4096) fresh ≡ 1)
+    × (refusal (Lookup 4095 4095) fresh ≡ 6)
+    × (refusal (LookupNeighbours 0 0 9) fresh ≡ 6)
+    × (refusal (LookupNeighbours 0 0 9) five ≡ 8)
+    × (refusal (LookupNeighbours 0 0 10) five ≡ 0)
+    × (present (Add 1 2 (pos 3) ∷ Add 1 2 (pos 4) ∷ Change 1 2 (pos 5) ∷ Add 0 9 (pos 1) ∷ Drop 7 7 ∷ Lookup 0 0 ∷ []) ≡ two 0 9 (pos 1) 1 2 (pos 5))
+    × (present (Add 1 2 (pos 3) ∷ Clear ∷ Add 2 1 (pos 4) ∷ Drop 2 1 ∷ Add 2 1 (pos 6) ∷ Load [] ∷ []) ≡ surveyOf (point 2 1 (pos 6) ∷ []))
+unfolding refusal present tabulate
+calls = (refl, refl, refl, refl, refl, refl, refl, refl, refl, refl, refl, refl, refl, refl)
+
+-- 14 before 15 within a record, and record by record; the program on no bytes, and on an empty file with nothing before it
+pub files : (fault (point 5 0 (pos 0) ∷ point 4 4096 (pos 0) ∷ []) ≡ 14)
+    × (fault (point 5 0 (pos 0) ∷ point 5 0 (pos 0) ∷ point 4096 0 (pos 0) ∷ []) ≡ 15)
+    × (program [] ≡ 114 ∷ 101 ∷ 102 ∷ 117 ∷ 115 ∷ 101 ∷ 100 ∷ 32 ∷ 57 ∷ 10 ∷ [])
+    × (program (0 ∷ 0 ∷ 0 ∷ 0 ∷ 0 ∷ 0 ∷ 0 ∷ 0 ∷ 0x52 ∷ 0x4C ∷ 0x53 ∷ 0x31 ∷ []) ≡ 114 ∷ 101 ∷ 102 ∷ 117 ∷ 115 ∷ 101 ∷ 100 ∷ 32 ∷ 55 ∷ 10 ∷ [])
+unfolding fault program
+files = (refl, refl, refl, refl)
+
+-- document 01's whole case of the grid program
+pub whole-case : program (0 ∷ 0 ∷ 0 ∷ 0 ∷ 0 ∷ 1 ∷ 0 ∷ 1 ∷ 0 ∷ 2 ∷ 0 ∷ 1 ∷ 0 ∷ 3 ∷ 0 ∷ 0 ∷ 0xF9 ∷ 0 ∷ 1 ∷ 0 ∷ 0 ∷ 0 ∷ 5 ∷ 0 ∷ 0xFC ∷ 0x52 ∷ 0x4C ∷ 0x53 ∷ 0x31 ∷ [])
+    ≡ 0xF9 ∷ 0 ∷ 0xF9 ∷ 0 ∷ 0 ∷ 0 ∷ 0 ∷ 0 ∷ 0 ∷ 1 ∷ 0 ∷ 1 ∷ 0 ∷ 2 ∷ 0 ∷ 1 ∷ 0 ∷ 0 ∷ 0 ∷ 4 ∷ 0x52 ∷ 0x4C ∷ 0x47 ∷ 0x31 ∷ []
+unfolding program
+whole-case = refl

@@ -1,0 +1,16 @@
+-- What document 01 says of every survey: at most 256 points, in the domain and in range, ascending by x, then y, no two at one location.
+use Prim.Native.Nat.{_≤_}
+use mathlib.Core.Path.{_≡_}
+use mathlib.Core.Bool.{true}
+use lib.ListN.{length}
+use Rattle.model.specs.Lists.{All, Pairs}
+use Rattle.model.specs.Point.{Point, State, inDomain, inRange, precedes}
+
+pub record Sound (a : Point) : Type 0 where
+  pub location : inDomain (a .x) (a .y) ≡ true
+  pub value : inRange (a .z) ≡ true
+
+pub record Invariant (s : State) : Type 0 where
+  pub count : length (s .points) ≤ 256
+  pub ascending : Pairs (λ a b. precedes a b ≡ true) (s .points)
+  pub sound : All Sound (s .points)

@@ -1,0 +1,21 @@
+-- Document 01 as definitions, in the order in which they can be read.
+pub mod Lists
+pub mod Point
+pub mod Distance
+pub mod Radius
+pub mod Order
+pub mod Choice
+pub mod Fraction
+pub mod Influence
+pub mod Weight
+pub mod Mean
+pub mod Computed
+pub mod Answer
+pub mod Bytes
+pub mod SurveyFile
+pub mod Calls
+pub mod Invariant
+pub mod Grid
+pub mod GridFile
+pub mod Program
+pub mod Examples

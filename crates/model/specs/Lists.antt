@@ -1,0 +1,34 @@
+-- A few words about lists that the definitions share.
+use Prim.Native.Nat.{ℕ, zero, suc, _<_}
+use mathlib.Core.Bool.{Bool, cond}
+use mathlib.Core.List.{List, [], _∷_, _++_}
+use lib.ListN.{length, drop}
+
+module _ {A : Type 0} where
+  -- f 0 to f (n - 1)
+  unfoldable pub tabulate : (ℕ → A) → ℕ → List A
+  tabulate f zero = []
+  tabulate f (suc n) = tabulate f n ++ (f n ∷ [])
+
+  -- how many elements pass a test
+  unfoldable pub count : (A → Bool) → List A → ℕ
+  count f [] = 0
+  count f (a ∷ l) = cond (f a) (suc (count f l)) (count f l)
+
+  -- what a lent list l holds once b was written to its front
+  abbrev pub laid : List A → List A → List A
+  laid b l = b ++ drop (length b) l
+
+  -- a fact of every element
+  abbrev pub All : (A → Type 0) → List A → Type 0
+  All P [] = Unit {0}
+  All P (a ∷ l) = P a × All P l
+
+  -- a fact of every two elements, the earlier one first
+  abbrev pub Pairs : (A → A → Type 0) → List A → Type 0
+  Pairs R [] = Unit {0}
+  Pairs R (a ∷ l) = All (R a) l × Pairs R l
+
+-- a list of bytes
+abbrev pub Bytes : List ℕ → Type 0
+Bytes l = All (λ b. b < 256) l

@@ -1,0 +1,1 @@
+// Document 01 as definitions, in specs/. This crate has no code.
