@@ -1,0 +1,122 @@
+-- Rule 1 of document 01's choice in its own words: the first point in order is at P exactly where some point is, and then it alone is chosen.
+use mathlib.Core.Path.{_≡_, refl, sym, ap, _∙_}
+use mathlib.Core.Logic.{_⊎_, inl, inr, _↔_}
+use Prim.Native.Nat.{ℕ, zero, suc, _+_, _*_, _<_}
+use native.Mathlib.Omega.{arith}
+use mathlib.Core.Bool.{Bool, true, false, cond, _||_, or-assoc, or-comm, false≢true}
+use mathlib.Core.List.{List, [], _∷_}
+use lib.Dec.{eqb}
+use lib.ListN.{length, take}
+use borrow.Author.Tests.{eqb-true, eq-eqb}
+use Rattle.model.specs.Point.{Location, Point, State, at, precedes}
+use Rattle.model.specs.Distance.{gap, squared}
+use Rattle.model.specs.Order.{insert, sortOnto, sort}
+use Rattle.model.specs.Choice.{Choice, nearer, ordered, choiceApart, startsAt, coincident, choice}
+use Rattle.model.specs.Calls.{taken}
+use Rattle.laws.proofs.Tests.{and-true}
+use Rattle.laws.proofs.PrecedesLaws.{lexical-true, less-lexical}
+
+squares-zero : (m n : ℕ) → m * m + n * n ≡ 0 → (m ≡ 0) × (n ≡ 0)
+squares-zero zero zero h = (refl, refl)
+squares-zero zero (suc n) h = absurd (omega arith)
+squares-zero (suc m) n h = absurd (omega arith)
+
+-- rule 1 of a choice: one point, at p, and the radius 0
+pub record Alone (p : Location) (c : Choice) : Type 0 where
+  pub first : startsAt p (c .points) ≡ true
+  pub one : length (c .points) ≡ 1
+  pub narrow : c .radius ≡ 0
+
+first-alone : (p : Location) (l : List Point) (c : Choice) → startsAt p l ≡ true → Alone p (cond (startsAt p l) (record { points = take 1 l; radius = 0 }) c)
+unfolding startsAt
+first-alone p [] c h = absurd (false≢true h)
+first-alone p (a ∷ l) c h = rw h (record { first = h; one = refl; narrow = refl })
+
+starts-cond : (p : Location) (t : Bool) (l m : List Point) → startsAt p (cond t l m) ≡ cond t (startsAt p l) (startsAt p m)
+starts-cond p true l m = refl
+starts-cond p false l m = refl
+
+module _ (s : State) (p : Location) where
+  -- d² is 0 of a point at p alone
+  pub squared-zero : (a : Point) → (squared s p a ≡ 0) ↔ (at (p .x) (p .y) a ≡ true)
+  unfolding squared
+  squared-zero a = (
+    (λ h. let g = squares-zero (gap (p .x) (a .x)) (gap (p .y) (a .y)) h in
+        rw (eq-eqb (a .x) (p .x) (omega arith), eq-eqb (a .y) (p .y) (omega arith))),
+    λ h. let g = and-true (eqb (a .x) (p .x)) (eqb (a .y) (p .y)) h in
+        let ex : gap (p .x) (a .x) ≡ 0 = omega (arith, eqb-true (a .x) (p .x) (g .0)) in
+        let ey : gap (p .y) (a .y) ≡ 0 = omega (arith, eqb-true (a .y) (p .y) (g .1)) in
+        rw (ex, ey),
+  )
+
+  pub squared-apart : (a : Point) → at (p .x) (p .y) a ≡ false → 0 < squared s p a
+  squared-apart a h = go (squared s p a) refl
+    where
+      go : (n : ℕ) → squared s p a ≡ n → 0 < n
+      go zero e = absurd (false≢true (sym h ∙ squared-zero a .0 e))
+      go (suc n) e = omega arith
+
+  -- of two points the nearer is at p if either is
+  nearer-at : (a b : Point) → cond (nearer s p a b) (at (p .x) (p .y) a) (at (p .x) (p .y) b) ≡ at (p .x) (p .y) a || at (p .x) (p .y) b
+  unfolding nearer
+  nearer-at a b = go (nearer s p a b) (at (p .x) (p .y) a) (at (p .x) (p .y) b) refl refl refl
+    where
+      nil : (c : Point) → at (p .x) (p .y) c ≡ true → squared s p c ≡ 0
+      nil c h = squared-zero c .1 h
+
+      not-before : squared s p b ≡ 0 → 0 < squared s p a → (squared s p a < squared s p b) ⊎ ((squared s p a ≡ squared s p b) × (precedes a b ≡ true)) → ⊥
+      not-before h g (inl e) = omega arith
+      not-before h g (inr e) = omega arith
+
+      go : (t u v : Bool) → nearer s p a b ≡ t → at (p .x) (p .y) a ≡ u → at (p .x) (p .y) b ≡ v → cond t u v ≡ u || v
+      go true true v et eu ev = refl
+      go true false false et eu ev = refl
+      go true false true et eu ev =
+          absurd (not-before (nil b ev) (squared-apart a eu) (lexical-true (squared s p a) (squared s p b) (precedes a b) et))
+      go false false v et eu ev = refl
+      go false true true et eu ev = refl
+      go false true false et eu ev =
+          let g : 0 < squared s p b = squared-apart b ev in
+          let e : squared s p a ≡ 0 = nil a eu in
+          absurd (false≢true (sym et ∙ less-lexical (squared s p a) (squared s p b) (precedes a b) (omega arith)))
+
+  insert-starts : (a : Point) (l : List Point) → startsAt p (insert (nearer s p) a l) ≡ at (p .x) (p .y) a || startsAt p l
+  unfolding insert startsAt
+  insert-starts a [] = or-comm false (at (p .x) (p .y) a)
+  insert-starts a (b ∷ l) = starts-cond p (nearer s p a b) (a ∷ b ∷ l) (b ∷ insert (nearer s p) a l) ∙ nearer-at a b
+
+  sort-starts : (l m : List Point) → startsAt p (sortOnto (nearer s p) l m) ≡ startsAt p l || taken (p .x) (p .y) m
+  unfolding sortOnto
+  sort-starts l [] = or-comm false (startsAt p l)
+  sort-starts l (a ∷ m) =
+      sort-starts (insert (nearer s p) a l) m
+      ∙ rw (insert-starts, or-comm (at (p .x) (p .y) a) (startsAt p l)) (or-assoc (startsAt p l) (at (p .x) (p .y) a) (taken (p .x) (p .y) m))
+
+  -- the test of rule 1 is the test whether any point is at p
+  pub coincident-is : coincident s p ≡ taken (p .x) (p .y) (s .points)
+  unfolding coincident ordered sort startsAt
+  coincident-is = sort-starts [] (s .points)
+
+  pub rule-one : taken (p .x) (p .y) (s .points) ≡ true → Alone p (choice s p)
+  unfolding choice
+  rule-one h = first-alone p (ordered s p) (choiceApart s p) (coincident-is ∙ h)
+
+module _ {A : Type 0} (before : A → A → Bool) where
+  insert-length : (a : A) (l : List A) → length (insert before a l) ≡ suc (length l)
+  unfolding insert
+  insert-length a [] = refl
+  insert-length a (b ∷ l) = go (before a b) (insert-length a l)
+    where
+      go : (t : Bool) → length (insert before a l) ≡ suc (length l) → length (cond t (a ∷ b ∷ l) (b ∷ insert before a l)) ≡ suc (suc (length l))
+      go true e = refl
+      go false e = ap suc e
+
+  sort-length : (l m : List A) → length (sortOnto before l m) ≡ length l + length m
+  unfolding sortOnto
+  sort-length l [] = omega arith
+  sort-length l (a ∷ m) = omega (arith, sort-length (insert before a l) m, insert-length a l)
+
+-- the order holds as many points as the survey
+pub order-length : (s : State) (p : Location) → length (ordered s p) ≡ length (s .points)
+unfolding ordered sort
+order-length s p = omega (arith, sort-length (nearer s p) [] (s .points))

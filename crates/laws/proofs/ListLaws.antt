@@ -1,0 +1,54 @@
+-- Laws of the words that specs/Lists has: facts of every element, carried over, joined, and of parts; tables; and a map to lists, joined.
+use mathlib.Core.Path.{_≡_, refl}
+use Prim.Native.Nat.{ℕ, zero, suc, _+_, _<_}
+use native.Mathlib.Numerals.{add-one}
+use native.Mathlib.Omega.{arith}
+use mathlib.Core.List.{List, [], _∷_, _++_, flatMap, append-assoc}
+use lib.ListN.{length, take, drop, getD, length-append}
+use Rattle.model.specs.Lists.{tabulate, All, Bytes}
+
+module _ {A : Type 0} where
+  pub all-imp : (P Q : A → Type 0) → ((a : A) → P a → Q a) → (l : List A) → All P l → All Q l
+  all-imp P Q f [] h = tt
+  all-imp P Q f (a ∷ l) h = (f a (h .0), all-imp P Q f l (h .1))
+
+  pub all-both : (P Q R : A → Type 0) → ((a : A) → P a → Q a → R a) → (l : List A) → All P l → All Q l → All R l
+  all-both P Q R f [] h g = tt
+  all-both P Q R f (a ∷ l) h g = (f a (h .0) (g .0), all-both P Q R f l (h .1) (g .1))
+
+  pub all-take : (P : A → Type 0) (n : ℕ) (l : List A) → All P l → All P (take n l)
+  all-take P zero l h = tt
+  all-take P (suc n) [] h = tt
+  all-take P (suc n) (a ∷ l) h = (h .0, all-take P n l (h .1))
+
+  pub all-drop : (P : A → Type 0) (n : ℕ) (l : List A) → All P l → All P (drop n l)
+  all-drop P zero l h = h
+  all-drop P (suc n) [] h = tt
+  all-drop P (suc n) (a ∷ l) h = all-drop P n l (h .1)
+
+  pub all-at : (P : A → Type 0) (l : List A) (i : ℕ) (d : A) → P d → All P l → P (getD l i d)
+  all-at P [] i d p h = p
+  all-at P (a ∷ l) zero d p h = h .0
+  all-at P (a ∷ l) (suc i) d p h = all-at P l i d p (h .1)
+
+  pub tabulate-same : (f g : ℕ → A) (n : ℕ) → ((i : ℕ) → i < n → f i ≡ g i) → tabulate f n ≡ tabulate g n
+  unfolding tabulate
+  tabulate-same f g zero h = refl
+  tabulate-same f g (suc n) h = rw (tabulate-same f g n (λ i l. h i (omega arith)), h n (omega arith))
+
+  pub tabulate-more : (f : ℕ → A) (n : ℕ) → tabulate f (n + 1) ≡ tabulate f n ++ (f n ∷ [])
+  unfolding tabulate
+  tabulate-more f n = rw add-one
+
+  pub length-tabulate : (f : ℕ → A) (n : ℕ) → length (tabulate f n) ≡ n
+  unfolding tabulate
+  length-tabulate f zero = refl
+  length-tabulate f (suc n) = omega (arith, length-append (tabulate f n) (f n ∷ []), length-tabulate f n)
+
+  pub flatMap-append : {B : Type 0} (f : A → List B) (l m : List A) → flatMap f (l ++ m) ≡ flatMap f l ++ flatMap f m
+  unfolding flatMap
+  flatMap-append f [] m = refl
+  flatMap-append f (a ∷ l) m = rw (flatMap-append f l m, append-assoc)
+
+pub byte-at : (l : List ℕ) (i : ℕ) → Bytes l → getD l i 0 < 256
+byte-at l i h = all-at (λ b. b < 256) l i 0 (omega arith) h
