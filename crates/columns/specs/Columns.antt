@@ -1,0 +1,25 @@
+-- The points that three arrays and a count hold.
+use Prim.Native.Nat.{ℕ, _%_, min}
+use mathlib.Core.List.{List, map}
+use lib.IntN.{ℤ, pos}
+use lib.ListN.{getD}
+use Rattle.model.specs.Lists.{tabulate}
+use Rattle.model.specs.Point.{Point, State, point, surveyOf}
+
+-- as they stand: the first n places
+unfoldable pub held : List ℕ → List ℕ → List ℤ → ℕ → List Point
+unfolding tabulate
+held xs ys zs n = tabulate (λ i. point (getD xs i 0) (getD ys i 0) (getD zs i (pos 0))) n
+
+-- a point with its coordinates taken modulo 4,096: itself in the domain
+abbrev pub wrapped : Point → Point
+wrapped a = point (a .x % 4096) (a .y % 4096) (a .z)
+
+-- as they are read, whatever the arrays hold: coordinates modulo 4,096, and a count above 256 as 256
+unfoldable pub pointsIn : List ℕ → List ℕ → List ℤ → ℕ → List Point
+unfolding held
+pointsIn xs ys zs n = map wrapped (held xs ys zs (min n 256))
+
+-- the survey that they are
+abbrev pub surveyIn : List ℕ → List ℕ → List ℤ → ℕ → State
+surveyIn xs ys zs n = surveyOf (pointsIn xs ys zs n)

@@ -1,0 +1,34 @@
+-- A value by the sign that its bits show, and -1 less a value.
+use mathlib.Core.Path.{_≡_, refl, ap}
+use mathlib.Core.Bool.{true, false}
+use Prim.Native.Nat.{ℕ, zero, suc}
+use native.Mathlib.Nat.{zero-add}
+use native.Mathlib.Omega.{arith}
+use lib.IntN.{ℤ, pos, negsuc, _-ℤ_}
+use lib.Signed.{ltZ, mag}
+use mir.Syntax.{Width}
+use mir.Val.{SFits, toZ, ofZ}
+use mir.Facts.{toZ-ofZ}
+use borrow.Author.Tests.{le-ltb}
+
+negative : (z : ℤ) → ltZ z (pos 0) ≡ true → z ≡ negsuc (mag z)
+negative (pos n) t = cc (le-ltb n 0 (omega arith))
+negative (negsuc n) t = refl
+
+natural : (z : ℤ) → ltZ z (pos 0) ≡ false → z ≡ pos (mag z)
+natural (pos n) t = refl
+natural (negsuc n) t = cc
+
+module _ {w : Width} {z : ℤ} (f : SFits w z) where
+  pub below-zero : ltZ (toZ w (ofZ w z)) (pos 0) ≡ true → z ≡ negsuc (mag z)
+  below-zero t = negative z (rw (toZ-ofZ f) at t)
+
+  pub from-zero : ltZ (toZ w (ofZ w z)) (pos 0) ≡ false → z ≡ pos (mag z)
+  from-zero t = natural z (rw (toZ-ofZ f) at t)
+
+pub minus-one-minus : (n : ℕ) → negsuc 0 -ℤ negsuc n ≡ pos n
+minus-one-minus n = rw (le-ltb (suc n) 1 (omega arith)) (ap pos (omega arith))
+
+pub minus-one : (n : ℕ) → negsuc 0 -ℤ pos n ≡ negsuc n
+minus-one zero = refl
+minus-one (suc n) = ap (λ (k : ℕ). negsuc (suc k)) (zero-add n)

@@ -1,0 +1,66 @@
+// Numbers in files: words of bytes, high byte first, two's complement, and the sum of bytes.
+ghost use mathlib.Core.Path.{_≡_};
+ghost use Prim.Native.Nat.{_+_, _<_, _≤_};
+ghost use lib.ListN.{length};
+ghost use Rattle.model.specs.Bytes.{wordAt, longAt, complement, signed};
+ghost use Rattle.model.specs.Bytes as model-bytes;
+
+// A byte as a wider number.
+fn wide(b: u8) -> usize
+    ensures { λ r. ⌜ (r ≡ b) × (r < 256) ⌝ }
+{
+    b as usize
+}
+
+// The number in the two bytes at i.
+pub fn word_at(s: &[u8], i: usize) -> usize
+    requires { ⌜ i + 1 < length (now s) ⌝ }
+    ensures { λ r. ⌜ r ≡ wordAt (now (s .entry)) i ⌝ }
+    ensures { λ r. ⌜ r < 65536 ⌝ }
+{
+    256 * wide(s[i]) + wide(s[i + 1])
+}
+
+// The number in the four bytes at i.
+pub fn long_at(s: &[u8], i: usize) -> usize
+    requires { ⌜ i + 3 < length (now s) ⌝ }
+    ensures { λ r. ⌜ r ≡ longAt (now (s .entry)) i ⌝ }
+{
+    65536 * word_at(s, i) + word_at(s, i + 2)
+}
+
+// The sum of at most 1,280 bytes.
+pub fn total(s: &[u8]) -> usize
+    requires { ⌜ length (now s) ≤ 1280 ⌝ }
+    ensures { λ r. ⌜ r ≡ model-bytes.total (now (s .entry)) ⌝ }
+{
+    let mut sum = 0usize;
+    let mut i = 0usize;
+    while i < s.len() {
+        sum += wide(s[i]);
+        i += 1;
+    }
+    sum
+}
+
+// A byte in two's complement, as a value.
+pub fn signed_of(b: u8) -> i8
+    ensures { λ r. ⌜ r ≡ signed 128 b ⌝ }
+{
+    if b < 128 {
+        b as i8
+    } else {
+        -1 - ((255 - b) as i8)
+    }
+}
+
+// A value as a byte in two's complement.
+pub fn complement_of(z: i8) -> u8
+    ensures { λ r. ⌜ r ≡ complement 128 z ⌝ }
+{
+    if z < 0 {
+        255 - ((-1 - z) as u8)
+    } else {
+        z as u8
+    }
+}
