@@ -1,0 +1,8 @@
+pub mod Stores
+pub mod Encoded
+pub mod Outcome
+pub mod Ends
+pub mod RankLaws
+pub mod Records
+pub mod Passed
+pub mod SameSurvey

@@ -1,0 +1,63 @@
+// The survey file: from bytes to arrays of points, by the trailer at the end, and back.
+mod decode;
+mod encode;
+mod magic;
+
+ghost use mathlib.Core.Path.{_≡_};
+ghost use lib.ListN.{length};
+ghost use Rattle.model.specs.SurveyFile.{writtenInto};
+ghost use Rattle.columns.specs.Columns.{surveyIn};
+ghost use Rattle.survey_file.specs.Reading.{ReadsAs};
+ghost use Rattle.survey_file.specs.Written.{writtenAs};
+
+// What reading gives: 0 or the refusal's number, and the first `count` points of the arrays, none where it is refused.
+pub struct Reading {
+    pub refusal: u8,
+    pub x: [u16; 256],
+    pub y: [u16; 256],
+    pub z: [i8; 256],
+    pub count: usize,
+}
+
+// What writing answers: the file's length in bytes, or the refusal's number.
+pub enum Written {
+    Length(usize),
+    Refused(u8),
+}
+
+// Reads a survey file: refusals 9 to 15.
+pub fn read(file: &[u8]) -> Reading
+    ensures { λ r. ⌜ ReadsAs (now (file .entry)) r ⌝ }
+{
+    let no = decode::check_trailer(file);
+    if no != 0 {
+        return decode::refused(no);
+    }
+    let end = file.len() - 12;
+    let count = numbers::word_at(file, end);
+    let start = end - 5 * count;
+    decode::records(&file[start..end], count)
+}
+
+// Writes the file of the points to the front of the lent bytes: refusal 8 where they are too few.
+pub fn write<'a>(
+    x: &'a [u16; 256],
+    y: &'a [u16; 256],
+    z: &'a [i8; 256],
+    count: usize,
+    out: &mut [u8],
+) -> Written
+    ensures { λ r. ⌜ r ≡ writtenAs (surveyIn (now (x .entry)) (now (y .entry)) (now (z .entry)) count) (length (now (out .entry))) ⌝ }
+    ensures { λ _. ⌜ now (out .exit) ≡ writtenInto (surveyIn (now (x .entry)) (now (y .entry)) (now (z .entry)) count) (now (out .entry)) ⌝ }
+{
+    let n = columns::clamped(count);
+    let end = 5 * n;
+    if out.len() < end + 12 {
+        return Written::Refused(8);
+    }
+    encode::records(x, y, z, n, &mut out[..end]);
+    let sum = numbers::total(&out[..end]);
+    let t = encode::trailer(n, sum);
+    bytes::copy(&t, &mut out[end..]);
+    Written::Length(end + 12)
+}
