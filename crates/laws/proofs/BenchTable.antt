@@ -1,8 +1,8 @@
 -- The starred rows of document 01's bench table, as one theorem.
 use mathlib.Core.Path.{_≡_}
-use Prim.Native.Nat.{ℕ, _<_}
+use Prim.Native.Nat.{ℕ}
 use mathlib.Core.List.{[], _∷_}
-use lib.IntN.{ℤ, pos, negsuc, _*ℤ_}
+use lib.IntN.{ℤ, negsuc}
 use Rattle.model.specs.Point.{Location, State, point, surveyOf}
 use Rattle.model.specs.Mean.{Near, mean}
 use Rattle.model.specs.Examples.{StarredRows, closed-rows, Is}

@@ -1,6 +1,6 @@
 -- Factors, weights and mean as 64-bit floats work them out, each operation rounded once: document 01, "Pull and mean".
 -- Each name is the exact one with F. The sums go through the chosen points in order of choice.
-use Prim.Native.Nat.{ℕ, zero, suc, _-_, _*_}
+use Prim.Native.Nat.{ℕ, zero, suc, _-_}
 use mathlib.Core.Bool.{cond}
 use lib.Dec.{eqb}
 use lib.IntN.{ℤ, pos, _-ℤ_, natAbs}

@@ -1,12 +1,11 @@
 -- Closed cases that hold the definitions to document 01: the starred rows of its bench table, `closed-rows`; rows of our own that these cannot replace,
 -- `further`, `calls` and `files`; and the whole case of the grid program.
-use Prim.Native.Nat.{ℕ, _*_, _<_}
+use Prim.Native.Nat.{ℕ, _<_}
 use mathlib.Core.Path.{_≡_, refl}
 use mathlib.Core.Bool.{false}
 use mathlib.Core.List.{List, [], _∷_, map, reverse}
 use lib.Dec.{lit<}
 use lib.IntN.{ℤ, pos, negsuc, _*ℤ_}
-use lib.ListN.{length}
 use Rattle.model.specs.Lists.{tabulate}
 use Rattle.model.specs.Point.{Location, Point, State, point, location, surveyOf}
 use Rattle.model.specs.Distance.{distance}

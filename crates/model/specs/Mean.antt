@@ -1,12 +1,12 @@
 -- The exact mean, a fraction of two whole numbers, and what is asked of an answer: document 01, "Pull and mean", and demand 3.
-use Prim.Native.Nat.{ℕ, _*_, _≤_, _<_}
+use Prim.Native.Nat.{_*_, _≤_, _<_}
 use mathlib.Core.Bool.{cond}
 use mathlib.Core.List.{List, [], _∷_, map, foldl}
 use lib.IntN.{ℤ, pos, _-ℤ_, _*ℤ_, natAbs}
 use lib.ListN.{getD}
 use lib.Signed.{leZ, _≤ℤ_}
 use Rattle.model.specs.Point.{Location, Point, State, point}
-use Rattle.model.specs.Choice.{Choice, choice, coincident}
+use Rattle.model.specs.Choice.{choice, coincident}
 use Rattle.model.specs.Fraction.{Signed, sum, timesZ, sumZ, overZ}
 use Rattle.model.specs.Weight.{Neighbourhood, neighbourhood, weight}
 

@@ -4,7 +4,7 @@ use Prim.Native.Nat.{ℕ, _+_, _*_, min}
 use mathlib.Core.List.{List, _++_, map, flatMap, map-append}
 use lib.IntN.{ℤ, pos}
 use lib.ListN.{length, getD, length-append, length-map}
-use Rattle.model.specs.Point.{Point, point}
+use Rattle.model.specs.Point.{point}
 use Rattle.model.specs.Bytes.{bytes2, bytes4, total}
 use Rattle.model.specs.SurveyFile.{recordBytes, records, fileOf, magic}
 use Rattle.laws.proofs.ListLaws.{tabulate-more, flatMap-append}

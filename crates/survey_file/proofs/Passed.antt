@@ -3,13 +3,13 @@ use mathlib.Core.Path.{_≡_, refl, sym, ap, _∙_}
 use Prim.Native.Nat.{ℕ, _+_, _*_, _≤_, _<_}
 use native.Mathlib.Omega.{arith}
 use mathlib.Core.Bool.{Bool, true, false, cond}
-use mathlib.Core.List.{List, [], _∷_, _++_, append-nil, append-assoc}
-use lib.Dec.{eqb, ltb}
+use mathlib.Core.List.{List, [], _++_, append-nil, append-assoc}
+use lib.Dec.{ltb}
 use lib.IntN.{ℤ}
 use lib.ListN.{length, drop, getD, set, length-set}
 use borrow.Author.Tests.{eq-eqb, ne-eqb}
 use Rattle.model.specs.Lists.{tabulate}
-use Rattle.model.specs.Point.{Point, point, inDomain}
+use Rattle.model.specs.Point.{Point, inDomain}
 use Rattle.model.specs.Bytes.{wordAt, signed}
 use Rattle.model.specs.SurveyFile.{pointsOf, fault}
 use Rattle.columns.specs.Columns.{held}
@@ -18,7 +18,7 @@ use Rattle.survey_file.specs.declared.Reading.{Reading}
 use Rattle.survey_file.specs.Rank.{rank, faultBy, faultFrom}
 use Rattle.survey_file.specs.Reading.{Gives}
 use Rattle.survey_file.proofs.RankLaws.{fault-rank}
-use Rattle.survey_file.proofs.Records.{pointAt, points-step, points-end}
+use Rattle.survey_file.proofs.Records.{points-step, points-end}
 
 -- arrays of 256 places
 pub record Sized (r : Reading) : Type 0 where

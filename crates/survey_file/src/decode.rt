@@ -1,7 +1,6 @@
 // Reading a survey file: the trailer's checks, then the records, one pass each.
 ghost use mathlib.Core.Path.{_≡_};
 ghost use Prim.Native.Nat.{_*_, _<_, _≤_};
-ghost use mathlib.Core.List.{[]};
 ghost use lib.ListN.{length};
 ghost use Rattle.model.specs.SurveyFile.{trailerCheck, pointsOf, fault};
 ghost use Rattle.survey_file.specs.Rank.{faultBy};

@@ -5,7 +5,6 @@ ghost use lib.ListN.{length};
 ghost use Rattle.model.specs.SurveyFile.{recordBytes, records as recordsOf, magic};
 ghost use Rattle.model.specs.Bytes.{bytes2, bytes4};
 ghost use mathlib.Core.List.{_++_, map};
-ghost use lib.ListN.{drop};
 ghost use Rattle.columns.specs.Columns.{held, wrapped};
 use crate::magic;
 

@@ -1,10 +1,10 @@
 -- `read` meets its contract: a trailer that passes gives the part in which the records stand, and their fault is then the file's.
-use mathlib.Core.Path.{_≡_, sym, ap, _∙_}
+use mathlib.Core.Path.{_≡_, sym, _∙_}
 use Prim.Native.Nat.{_*_}
 use native.Mathlib.Omega.{arith}
 use borrow.Author.Needs.{needs}
 use Rattle.model.specs.SurveyFile.{fileRefusal, trailerCheck, fault, filePoints, backIn}
-use Rattle.laws.proofs.TrailerLaws.{Passing, passing-facts, passing-check, check-first}
+use Rattle.laws.proofs.TrailerLaws.{passing-facts, passing-check, check-first}
 use Rattle.laws.proofs.RoundTrip.{length-in}
 use Rattle.survey_file.proofs.Ends.{part-is}
 use Rattle.survey_file.proofs.Passed.{refused-gives}

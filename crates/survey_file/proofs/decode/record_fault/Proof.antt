@@ -1,7 +1,5 @@
 -- `record_fault` meets its contract: each answer rewrites with the tests that led to it.
-use mathlib.Core.Bool.{and-false}
 use native.Mathlib.Omega.{arith}
-use borrow.Author.Needs.{needs}
 use borrow.Author.Tests.{lt-ltb, le-ltb}
 use Rattle.survey_file.proofs.decode.record_fault.Statement.{statement}
 use Rattle.survey_file.proofs.decode.record_fault.Tie as tie

@@ -1,6 +1,5 @@
 -- `has_magic` meets its contract: the list from i on is four bytes, and each answer rewrites with the tests that led to it.
 use native.Mathlib.Omega.{arith}
-use borrow.Author.Needs.{needs}
 use borrow.Author.Tests.{eq-eqb, ne-eqb}
 use Rattle.survey_file.proofs.Ends.{is-magic}
 use Rattle.survey_file.proofs.magic.has_magic.Statement.{statement}
