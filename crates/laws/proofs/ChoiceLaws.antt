@@ -1,20 +1,22 @@
--- Rule 1 of document 01's choice in its own words: the first point in order is at P exactly where some point is, and then it alone is chosen.
-use mathlib.Core.Path.{_≡_, refl, sym, ap, _∙_}
+-- Document 01's choice in its own words. Rule 1: the first point in order is at P exactly where some point is, and then it alone is chosen.
+-- Rule 2: the order is of all points, by d², then x, then y.
+use mathlib.Core.Path.{_≡_, refl, sym, _∙_}
 use mathlib.Core.Logic.{_⊎_, inl, inr, _↔_}
 use Prim.Native.Nat.{ℕ, zero, suc, _+_, _*_, _<_}
 use native.Mathlib.Omega.{arith}
-use mathlib.Core.Bool.{Bool, true, false, cond, _||_, or-assoc, or-comm, false≢true}
+use mathlib.Core.Bool.{Bool, true, false, cond, _||_, or-assoc, or-comm, false≢true, and-eq-true-iff}
 use mathlib.Core.List.{List, [], _∷_}
 use lib.Dec.{eqb}
 use lib.ListN.{length, take}
 use borrow.Author.Tests.{eqb-true, eq-eqb}
+use Rattle.model.specs.Lists.{count, Pairs}
 use Rattle.model.specs.Point.{Location, Point, State, at, precedes}
 use Rattle.model.specs.Distance.{gap, squared}
 use Rattle.model.specs.Order.{insert, sortOnto, sort}
 use Rattle.model.specs.Choice.{Choice, nearer, ordered, choiceApart, startsAt, coincident, choice}
 use Rattle.model.specs.Calls.{taken}
-use Rattle.laws.proofs.Tests.{and-true}
-use Rattle.laws.proofs.PrecedesLaws.{lexical-true, less-lexical}
+use Rattle.laws.proofs.PrecedesLaws.{lexical-true, less-lexical, lexical-trans, lexical-self, precedes-trans, precedes-self}
+use Rattle.laws.proofs.OrderLaws.{sort-settled, sort-count}
 
 squares-zero : (m n : ℕ) → m * m + n * n ≡ 0 → (m ≡ 0) × (n ≡ 0)
 squares-zero zero zero h = (refl, refl)
@@ -43,7 +45,7 @@ module _ (s : State) (p : Location) where
   squared-zero a = (
     (λ h. let g = squares-zero (gap (p .x) (a .x)) (gap (p .y) (a .y)) h in
         rw (eq-eqb (a .x) (p .x) (omega arith), eq-eqb (a .y) (p .y) (omega arith))),
-    λ h. let g = and-true (eqb (a .x) (p .x)) (eqb (a .y) (p .y)) h in
+    λ h. let g = and-eq-true-iff (eqb (a .x) (p .x)) (eqb (a .y) (p .y)) .0 h in
         let ex : gap (p .x) (a .x) ≡ 0 = omega (arith, eqb-true (a .x) (p .x) (g .0)) in
         let ey : gap (p .y) (a .y) ≡ 0 = omega (arith, eqb-true (a .y) (p .y) (g .1)) in
         rw (ex, ey),
@@ -101,22 +103,21 @@ module _ (s : State) (p : Location) where
   unfolding choice
   rule-one h = first-alone p (ordered s p) (choiceApart s p) (coincident-is ∙ h)
 
-module _ {A : Type 0} (before : A → A → Bool) where
-  insert-length : (a : A) (l : List A) → length (insert before a l) ≡ suc (length l)
-  unfolding insert
-  insert-length a [] = refl
-  insert-length a (b ∷ l) = go (before a b) (insert-length a l)
-    where
-      go : (t : Bool) → length (insert before a l) ≡ suc (length l) → length (cond t (a ∷ b ∷ l) (b ∷ insert before a l)) ≡ suc (suc (length l))
-      go true e = refl
-      go false e = ap suc e
+  nearer-self : (a : Point) → nearer s p a a ≡ false
+  unfolding nearer
+  nearer-self a = lexical-self (squared s p a) (precedes a a) (precedes-self a)
 
-  sort-length : (l m : List A) → length (sortOnto before l m) ≡ length l + length m
-  unfolding sortOnto
-  sort-length l [] = omega arith
-  sort-length l (a ∷ m) = omega (arith, sort-length (insert before a l) m, insert-length a l)
+  nearer-trans : (a b c : Point) → nearer s p a b ≡ true → nearer s p b c ≡ true → nearer s p a c ≡ true
+  unfolding nearer
+  nearer-trans a b c =
+      lexical-trans (squared s p a) (squared s p b) (squared s p c) (precedes a b) (precedes b c) (precedes a c) (precedes-trans a b c)
 
--- the order holds as many points as the survey
-pub order-length : (s : State) (p : Location) → length (ordered s p) ≡ length (s .points)
-unfolding ordered sort
-order-length s p = omega (arith, sort-length (nearer s p) [] (s .points))
+  -- all points in order: no later one is nearer, or as near and first by x, then y
+  pub order-settled : Pairs (λ a b. nearer s p b a ≡ false) (ordered s p)
+  unfolding ordered
+  order-settled = sort-settled (nearer s p) nearer-self nearer-trans (s .points)
+
+  -- and all points: as many as the survey has answer to any test
+  pub order-count : (f : Point → Bool) → count f (ordered s p) ≡ count f (s .points)
+  unfolding ordered
+  order-count f = sort-count (nearer s p) f (s .points)

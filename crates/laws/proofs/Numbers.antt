@@ -2,14 +2,13 @@
 use mathlib.Core.Path.{_≡_, refl, ap, ap₂}
 use Prim.Native.Nat.{ℕ, suc, _+_, _-_, _*_, _/_, _%_, _≤_, _<_}
 use native.Mathlib.Omega.{arith}
-use mathlib.Core.Bool.{Bool, true, false}
+use mathlib.Core.Bool.{Bool, true, false, and-eq-true-iff}
 use mathlib.Core.List.{[], _∷_, _++_}
 use lib.Dec.{ltb, leb}
 use lib.IntN.{ℤ, pos, negsuc}
 use borrow.Author.Tests.{ltb-true, ltb-false, leb-true, lt-ltb, le-ltb, le-leb}
 use Rattle.model.specs.Bytes.{word, bytes2, bytes4, complement, signed}
 use Rattle.model.specs.Point.{inRange}
-use Rattle.laws.proofs.Tests.{and-true}
 
 -- two bytes hold a number's last 16 bits, four a whole number below 2^32
 pub word-back : (n : ℕ) → word (n / 256 % 256) (n % 256) ≡ n % 65536
@@ -33,7 +32,7 @@ bytes4-long n a b c d ha hb hc hd e =
 pub signed-back : (z : ℤ) → inRange z ≡ true → signed 128 (complement 128 z) ≡ z
 signed-back (pos n) h = rw (lt-ltb n 128 (omega (arith, leb-true n 127 h)))
 signed-back (negsuc n) h =
-    let k : n ≤ 127 = leb-true n 127 (and-true (leb n 127) true h .0) in
+    let k : n ≤ 127 = leb-true n 127 (and-eq-true-iff (leb n 127) true .0 h .0) in
     let e : 256 - suc (256 - suc n) ≡ n = omega arith in
     rw (le-ltb (256 - suc n) 128 (omega arith)) (ap negsuc e)
 

@@ -1,4 +1,4 @@
--- The order of points by x, then y: what it says in numbers, and that it is transitive.
+-- Lexical order: what it says in numbers, and that it is strict and transitive; of points by x, then y.
 use mathlib.Core.Path.{_≡_, refl}
 use mathlib.Core.Logic.{_⊎_, inl, inr}
 use Prim.Native.Nat.{ℕ, _<_}
@@ -22,17 +22,24 @@ less-lexical m n t h = rw (lt-ltb m n h)
 pub equal-lexical : (m n : ℕ) (t : Bool) → m ≡ n → t ≡ true → lexical m n t ≡ true
 equal-lexical m n t e h = rw (le-ltb m n (omega arith), eq-eqb m n e) h
 
-pub precedes-trans : (a b c : Point) → precedes a b ≡ true → precedes b c ≡ true → precedes a c ≡ true
-precedes-trans a b c p q = go (lexical-true (a .x) (b .x) (ltb (a .y) (b .y)) p) (lexical-true (b .x) (c .x) (ltb (b .y) (c .y)) q)
+pub lexical-trans : (m n k : ℕ) (s t u : Bool) → (s ≡ true → t ≡ true → u ≡ true) → lexical m n s ≡ true → lexical n k t ≡ true → lexical m k u ≡ true
+lexical-trans m n k s t u rest p q = go (lexical-true m n s p) (lexical-true n k t q)
   where
-    rest : Bool
-    rest = ltb (a .y) (c .y)
+    go : (m < n) ⊎ ((m ≡ n) × (s ≡ true)) → (n < k) ⊎ ((n ≡ k) × (t ≡ true)) → lexical m k u ≡ true
+    go (inl a) (inl b) = less-lexical m k u (omega arith)
+    go (inl a) (inr b) = less-lexical m k u (omega arith)
+    go (inr a) (inl b) = less-lexical m k u (omega arith)
+    go (inr a) (inr b) = equal-lexical m k u (omega arith) (rest (a .1) (b .1))
 
-    go : (a .x < b .x) ⊎ ((a .x ≡ b .x) × (ltb (a .y) (b .y) ≡ true)) → (b .x < c .x) ⊎ ((b .x ≡ c .x) × (ltb (b .y) (c .y) ≡ true)) → precedes a c ≡ true
-    go (inl p) (inl q) = less-lexical (a .x) (c .x) rest (omega arith)
-    go (inl p) (inr q) = less-lexical (a .x) (c .x) rest (omega arith)
-    go (inr p) (inl q) = less-lexical (a .x) (c .x) rest (omega arith)
-    go (inr p) (inr q) =
-        let t : a .y < b .y = ltb-true (a .y) (b .y) (p .1) in
-        let u : b .y < c .y = ltb-true (b .y) (c .y) (q .1) in
-        equal-lexical (a .x) (c .x) rest (omega arith) (lt-ltb (a .y) (c .y) (omega arith))
+pub lexical-self : (m : ℕ) (t : Bool) → t ≡ false → lexical m m t ≡ false
+lexical-self m t h = rw (le-ltb m m (omega arith), eq-eqb m m refl) h
+
+less-trans : (m n k : ℕ) → ltb m n ≡ true → ltb n k ≡ true → ltb m k ≡ true
+less-trans m n k p q = lt-ltb m k (omega (arith, ltb-true m n p, ltb-true n k q))
+
+pub precedes-trans : (a b c : Point) → precedes a b ≡ true → precedes b c ≡ true → precedes a c ≡ true
+precedes-trans a b c =
+    lexical-trans (a .x) (b .x) (c .x) (ltb (a .y) (b .y)) (ltb (b .y) (c .y)) (ltb (a .y) (c .y)) (less-trans (a .y) (b .y) (c .y))
+
+pub precedes-self : (a : Point) → precedes a a ≡ false
+precedes-self a = lexical-self (a .x) (ltb (a .y) (a .y)) (le-ltb (a .y) (a .y) (omega arith))

@@ -2,7 +2,7 @@
 use mathlib.Core.Path.{_≡_, refl, ap, ap₂}
 use Prim.Native.Nat.{ℕ, _*_, _/_, _%_, _<_}
 use native.Mathlib.Omega.{arith}
-use mathlib.Core.Bool.{true}
+use mathlib.Core.Bool.{true, and-eq-true-iff}
 use mathlib.Core.List.{List, [], _∷_, _++_, flatMap}
 use lib.Dec.{ltb}
 use lib.ListN.{length}
@@ -12,14 +12,14 @@ use Rattle.model.specs.Point.{Point, inDomain, inRange, precedes}
 use Rattle.model.specs.Bytes.{word, bytes2}
 use Rattle.model.specs.SurveyFile.{pointsOf, faultAfter, fault, records}
 use Rattle.model.specs.Invariant.{Sound}
-use Rattle.laws.proofs.Tests.{and-true, cond-sound}
+use Rattle.laws.proofs.Tests.{cond-sound}
 use Rattle.laws.proofs.PrecedesLaws.{precedes-trans}
 use Rattle.laws.proofs.ListLaws.{all-imp}
 use Rattle.laws.proofs.Numbers.{word-back, bytes2-word, signed-back, complement-back, signed-range}
 
 pub domain-bounds : (x y : ℕ) → inDomain x y ≡ true → (x < 4096) × (y < 4096)
 domain-bounds x y h =
-    let t = and-true (ltb x 4096) (ltb y 4096) h in
+    let t = and-eq-true-iff (ltb x 4096) (ltb y 4096) .0 h in
     (ltb-true x 4096 (t .0), ltb-true y 4096 (t .1))
 
 pub length-records : (l : List Point) → length (records l) ≡ 5 * length l

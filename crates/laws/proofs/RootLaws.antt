@@ -1,7 +1,7 @@
 -- `root n` is the greatest whole number whose square does not exceed n, and nothing else is: so are a distance and the initial radius.
 use mathlib.Core.Path.{_≡_, refl}
 use mathlib.Core.Logic.{_↔_}
-use Prim.Native.Nat.{ℕ, zero, suc, _+_, _*_, _/_, _^_, _≤_, _<_}
+use Prim.Native.Nat.{ℕ, zero, suc, _+_, _*_, _/_, _≤_, _<_}
 use native.Mathlib.Nat.{le-antisymm, mul-le-mul, le-div-iff-mul-le, lt-of-lt-of-le, lt-of-le-of-lt, lt-irrefl}
 use native.Mathlib.Omega.{arith}
 use native.Mathlib.Decide.{decLe}
@@ -61,9 +61,6 @@ root-is n = rootIn-is n n (omega arith)
 pub is-root : {n r : ℕ} → IsRoot n r → r ≡ root n
 is-root {n} h = root-unique h (root-is n)
 
-pub root-mono : {n m : ℕ} → n ≤ m → root n ≤ root m
-root-mono {n} {m} h = root-le (root-is n) (root-is m) h
-
 -- to compare a root with a bound takes no root
 pub root-le-iff : (n b : ℕ) → (root n ≤ b) ↔ (n < (b + 1) * (b + 1))
 root-le-iff n b = (
@@ -71,22 +68,10 @@ root-le-iff n b = (
   λ h. let l : root n < b + 1 = lt-of-sq-lt (root n) (b + 1) (lt-of-le-of-lt (root-is n .low) h) in omega arith,
 )
 
--- a root is below any bound whose square is above the number
-pub root-lt : (n b : ℕ) → n < b * b → root n < b
-root-lt n b h = lt-of-sq-lt (root n) b (lt-of-le-of-lt (root-is n .low) h)
-
--- what the root of a number below 2^50 fits into
-pub small-root : {n r : ℕ} → n < 2 ^ 50 → r ≡ root n → r < 2 ^ 25
-small-root {n} {r} h e = rw e (root-lt n (2 ^ 25) h)
-
 -- D ≤ R0 without a root
 pub distance-le-iff : (n b : ℕ) → (distanceOf n ≤ b) ↔ (65536 * n < (b + 1) * (b + 1))
 unfolding distanceOf
 distance-le-iff n b = root-le-iff (65536 * n) b
-
-pub distance-mono : {n m : ℕ} → n ≤ m → distanceOf n ≤ distanceOf m
-unfolding distanceOf
-distance-mono {n} {m} h = let g : 65536 * n ≤ 65536 * m = omega arith in root-mono g
 
 -- a distance is 0 of a squared distance of 0 alone
 pub distance-pos : (n : ℕ) → 0 < n → 0 < distanceOf n

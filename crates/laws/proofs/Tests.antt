@@ -1,8 +1,8 @@
--- What tests joined by `&&`, `||` and `cond` tell of their parts.
+-- What tests joined by `||` and `cond` tell of their parts.
 use mathlib.Core.Path.{_≡_, refl}
 use Prim.Native.Nat.{ℕ, suc}
 use native.Mathlib.Omega.{arith}
-use mathlib.Core.Bool.{Bool, true, false, cond, _&&_, _||_}
+use mathlib.Core.Bool.{Bool, true, false, cond, _||_}
 
 pub or-true : (a b : Bool) → b ≡ true → a || b ≡ true
 or-true true b h = refl
@@ -11,10 +11,6 @@ or-true false b h = h
 pub or-false : (a b : Bool) → a || b ≡ false → (a ≡ false) × (b ≡ false)
 or-false true b h = (h, cc)
 or-false false b h = (refl, h)
-
-pub and-true : (a b : Bool) → a && b ≡ true → (a ≡ true) × (b ≡ true)
-and-true true b h = (refl, h)
-and-true false b h = (h, cc)
 
 -- a check that finds nothing has passed, and so have those that follow
 pub cond-zero : (t : Bool) (k n : ℕ) → cond t (suc k) n ≡ 0 → (t ≡ false) × (n ≡ 0)

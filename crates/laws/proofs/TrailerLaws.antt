@@ -3,14 +3,14 @@ use mathlib.Core.Path.{_≡_, refl, ap₂, _∙_}
 use mathlib.Core.Logic.{_⊎_, inl, inr}
 use Prim.Native.Nat.{ℕ, _*_, _%_, _≤_, _<_}
 use native.Mathlib.Omega.{arith}
-use mathlib.Core.Bool.{Bool, true, false, cond, not, _||_}
+use mathlib.Core.Bool.{Bool, true, false, cond, not, _||_, and-eq-true-iff}
 use mathlib.Core.List.{List, [], _∷_}
 use lib.Dec.{ltb, eqb}
 use lib.ListN.{length}
 use borrow.Author.Tests.{ltb-false, eqb-true, lt-ltb, le-ltb, eq-eqb, ne-eqb, not-false}
 use Rattle.model.specs.Bytes.{same, total}
 use Rattle.model.specs.SurveyFile.{magic, trailerStart, countIn, backIn, sumIn, magicIn, recordsIn, filePoints, fault, trailerCheck, fileRefusal}
-use Rattle.laws.proofs.Tests.{or-true, or-false, and-true, cond-zero}
+use Rattle.laws.proofs.Tests.{or-true, or-false, cond-zero}
 
 pub same-self : (l : List ℕ) → same l l ≡ true
 same-self [] = refl
@@ -21,7 +21,7 @@ same-true [] [] h = refl
 same-true [] (b ∷ m) h = cc
 same-true (a ∷ l) [] h = cc
 same-true (a ∷ l) (b ∷ m) h =
-    let e = and-true (eqb a b) (same l m) h in
+    let e = and-eq-true-iff (eqb a b) (same l m) .0 h in
     ap₂ {C = List ℕ} (λ c r. c ∷ r) (eqb-true a b (e .0)) (same-true l m (e .1))
 
 module _ (f : List ℕ) (n : ℕ) where

@@ -1,5 +1,5 @@
 -- What a lookup gives: the answer worked out in floats, the count and the radius, and the neighbour records: document 01, "Pull and mean".
--- The answer's rounding is what the paper leaves free; that this one is `Right` is a theorem of the crate weights.
+-- The answer's rounding is what the paper leaves free: `Right`, in Mean, says what is asked of it.
 use Prim.Native.Nat.{ℕ, _+_, _/_}
 use mathlib.Core.Bool.{cond}
 use mathlib.Core.List.{List, map}

@@ -2,8 +2,7 @@
 ghost use mathlib.Core.Path.{_≡_};
 ghost use Prim.Native.Nat.{_+_, _<_, _≤_};
 ghost use lib.ListN.{length};
-ghost use Rattle.model.specs.Bytes.{wordAt, longAt, complement, signed};
-ghost use Rattle.model.specs.Bytes as model-bytes;
+ghost use Rattle.model.specs.Bytes.{wordAt, longAt, complement, signed, total as totalOf};
 
 // A byte as a wider number.
 fn wide(b: u8) -> usize
@@ -32,7 +31,7 @@ pub fn long_at(s: &[u8], i: usize) -> usize
 // The sum of at most 1,280 bytes.
 pub fn total(s: &[u8]) -> usize
     requires { ⌜ length (now s) ≤ 1280 ⌝ }
-    ensures { λ r. ⌜ r ≡ model-bytes.total (now (s .entry)) ⌝ }
+    ensures { λ r. ⌜ r ≡ totalOf (now (s .entry)) ⌝ }
 {
     let mut sum = 0usize;
     let mut i = 0usize;

@@ -47,15 +47,15 @@ at-start s count r z e = record { within = omega arith; sized = z; accepted = e;
 abbrev by : Bool → Bool → ℕ → ℕ
 by inside behind n = cond inside (cond behind 15 n) 14
 
-first-fault : (a b : Bool) (n : ℕ) → (by a b 0 ≡ 0 → ⊥) → by a b n ≡ by a b 0
-first-fault true true n k = refl
-first-fault true false n k = absurd (k refl)
-first-fault false b n k = refl
+stops-here : (a b : Bool) (n : ℕ) → (by a b 0 ≡ 0 → ⊥) → by a b n ≡ by a b 0
+stops-here true true n k = refl
+stops-here true false n k = absurd (k refl)
+stops-here false b n k = refl
 
-no-fault : (a b : Bool) (n : ℕ) → by a b 0 ≡ 0 → by a b n ≡ n
-no-fault true true n k = let z : _≡_ {A = ℕ} 15 0 = k in absurd (omega arith)
-no-fault true false n k = refl
-no-fault false b n k = let z : _≡_ {A = ℕ} 14 0 = k in absurd (omega arith)
+passes-on : (a b : Bool) (n : ℕ) → by a b 0 ≡ 0 → by a b n ≡ n
+passes-on true true n k = let z : _≡_ {A = ℕ} 15 0 = k in absurd (omega arith)
+passes-on true false n k = refl
+passes-on false b n k = let z : _≡_ {A = ℕ} 14 0 = k in absurd (omega arith)
 
 module _ (s : List ℕ) (count : ℕ) (r : Reading) (least i : ℕ) (p : Passed s count r least i) where
   pub at-end : length s ≡ 5 * count → count ≤ i → (t : Reading) → t .refusal ≡ r .refusal → t .x ≡ r .x → t .y ≡ r .y → t .z ≡ r .z → t .count ≡ count
@@ -80,7 +80,7 @@ module _ (s : List ℕ) (count : ℕ) (r : Reading) (least i : ℕ) (p : Passed 
     here = p .left ∙ rw (points-step s (5 * i) room, ex, ey)
 
     pub stops : (n : ℕ) → n ≡ faultBy least x y 0 → (n ≡ 0 → ⊥) → fault (pointsOf s) ≡ n
-    stops n e h = here ∙ first-fault (inDomain x y) (ltb (rank x y) least) _ (λ q. h (e ∙ q)) ∙ sym e
+    stops n e h = here ∙ stops-here (inDomain x y) (ltb (rank x y) least) _ (λ q. h (e ∙ q)) ∙ sym e
 
     pub goes-on : faultBy least x y 0 ≡ 0 → i < count → count ≤ 256 → (z : ℤ) → z ≡ signed 128 (getD s (5 * i + 4) 0)
         → (t : Reading) → t .refusal ≡ r .refusal → t .x ≡ set (r .x) i x → t .y ≡ set (r .y) i y → t .z ≡ set (r .z) i z
@@ -96,7 +96,7 @@ module _ (s : List ℕ) (count : ℕ) (r : Reading) (least i : ℕ) (p : Passed 
             long-z = rw (tz, length-set) (sized .long-z);
           };
           accepted = er ∙ p .accepted;
-          left = rw next (here ∙ no-fault (inDomain x y) (ltb (rank x y) least) _ none);
+          left = rw next (here ∙ passes-on (inDomain x y) (ltb (rank x y) least) _ none);
           so-far =
               rw (next, tx, ty, tz, held-set (r .x) (r .y) (r .z) i x y z (omega arith) (omega arith) (omega arith), append-assoc)
               (rw (ex, ey, ez, ← points-step s (5 * i) room) (p .so-far));

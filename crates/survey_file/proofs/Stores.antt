@@ -1,18 +1,14 @@
--- Stores from the front of a list, or of a part of it, on.
+-- What a list holds once a part of it, lent, was written to from its front on.
 use mathlib.Core.Path.{_≡_}
 use Prim.Native.Nat.{ℕ, _+_, _≤_}
-use native.Mathlib.Nat.{zero-add}
 use native.Mathlib.Omega.{arith}
 use mathlib.Core.List.{List, _++_, append-assoc, append-nil}
 use lib.ListN.{length, take, drop, length-append, length-drop, drop-of-length-le}
-use lib.Seq.{sets, sets-eq, take-at, drop-at, take-all, drop-drop, length-take-le}
+use lib.Seq.{take-at, drop-at, take-all, drop-drop, length-take-le}
 use borrow.Rule.Slice.PartMut.{midOf, postOf, putMid}
 use Rattle.model.specs.Lists.{laid}
 
 module _ {A : Type 0} where
-  pub sets-front : (vs l : List A) → length vs ≤ length l → sets l 0 vs ≡ laid vs l
-  sets-front vs l h = rw zero-add at (sets-eq vs l 0 (omega arith))
-
   -- a list up to the end of what was written to the front of its part from a on
   pub take-laid : (a k : ℕ) (l vs : List A) → a ≤ length l → take (a + length vs) (putMid a k l (laid vs (midOf a k l))) ≡ take a l ++ vs
   take-laid a k l vs h =

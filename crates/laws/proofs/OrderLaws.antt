@@ -1,0 +1,83 @@
+-- A list put in order holds the elements that it held, and no later one comes before an earlier one, where the test is strict and transitive.
+use mathlib.Core.Path.{_≡_, refl, sym, ap, _∙_}
+use Prim.Native.Nat.{ℕ, suc, _+_}
+use native.Mathlib.Omega.{arith}
+use mathlib.Core.Bool.{Bool, true, false, cond, false≢true}
+use mathlib.Core.List.{List, [], _∷_}
+use Rattle.model.specs.Lists.{count, All, Pairs}
+use Rattle.model.specs.Order.{insert, sortOnto, sort}
+use Rattle.laws.proofs.ListLaws.{all-imp}
+
+-- one more where a test passes
+abbrev more : Bool → ℕ → ℕ
+more t n = cond t (suc n) n
+
+more-more : (t u : Bool) (n : ℕ) → more t (more u n) ≡ more u (more t n)
+more-more true true n = refl
+more-more true false n = refl
+more-more false u n = refl
+
+more-plus : (t : Bool) (m n : ℕ) → more t m + n ≡ m + more t n
+more-plus true m n = omega arith
+more-plus false m n = refl
+
+module _ {A : Type 0} (before : A → A → Bool) where
+  insert-count : (f : A → Bool) (a : A) (l : List A) → count f (insert before a l) ≡ more (f a) (count f l)
+  unfolding insert count
+  insert-count f a [] = refl
+  insert-count f a (b ∷ l) = go (before a b) (insert-count f a l)
+    where
+      go : (t : Bool) → count f (insert before a l) ≡ more (f a) (count f l)
+          → count f (cond t (a ∷ b ∷ l) (b ∷ insert before a l)) ≡ more (f a) (more (f b) (count f l))
+      go true ih = refl
+      go false ih = ap (more (f b)) ih ∙ more-more (f b) (f a) (count f l)
+
+  onto-count : (f : A → Bool) (d l : List A) → count f (sortOnto before d l) ≡ count f d + count f l
+  unfolding sortOnto count
+  onto-count f d [] = omega arith
+  onto-count f d (a ∷ l) =
+      onto-count f (insert before a d) l ∙ ap (λ (n : ℕ). n + count f l) (insert-count f a d) ∙ more-plus (f a) (count f d) (count f l)
+
+  -- whatever is asked of the elements, as many answer to it
+  pub sort-count : (f : A → Bool) (l : List A) → count f (sort before l) ≡ count f l
+  unfolding sort count
+  sort-count f l = omega (arith, onto-count f [] l)
+
+  module _ (self : (a : A) → before a a ≡ false) (trans : (a b c : A) → before a b ≡ true → before b c ≡ true → before a c ≡ true) where
+    abbrev Settled : A → A → Type 0
+    Settled a b = before b a ≡ false
+
+    -- a comes before b, and c not before b: c does not come before a
+    settled-on : (a b c : A) → before a b ≡ true → Settled b c → Settled a c
+    settled-on a b c p q = go (before c a) refl
+      where
+        go : (t : Bool) → before c a ≡ t → t ≡ false
+        go true e = absurd (false≢true (sym q ∙ trans c a b e p))
+        go false e = refl
+
+    all-insert : (P : A → Type 0) (a : A) (l : List A) → P a → All P l → All P (insert before a l)
+    unfolding insert
+    all-insert P a [] p h = (p, tt)
+    all-insert P a (b ∷ l) p h = go (before a b) (all-insert P a l p (h .1))
+      where
+        go : (t : Bool) → All P (insert before a l) → All P (cond t (a ∷ b ∷ l) (b ∷ insert before a l))
+        go true ih = (p, h)
+        go false ih = (h .0, ih)
+
+    insert-settled : (a : A) (l : List A) → Pairs Settled l → Pairs Settled (insert before a l)
+    unfolding insert
+    insert-settled a [] h = (tt, tt)
+    insert-settled a (b ∷ l) h = go (before a b) refl (insert-settled a l (h .1))
+      where
+        go : (t : Bool) → before a b ≡ t → Pairs Settled (insert before a l) → Pairs Settled (cond t (a ∷ b ∷ l) (b ∷ insert before a l))
+        go true e ih = ((settled-on a b b e (self b), all-imp (Settled b) (Settled a) (λ c q. settled-on a b c e q) l (h .0)), h)
+        go false e ih = (all-insert (Settled b) a l e (h .0), ih)
+
+    onto-settled : (d l : List A) → Pairs Settled d → Pairs Settled (sortOnto before d l)
+    unfolding sortOnto
+    onto-settled d [] h = h
+    onto-settled d (a ∷ l) h = onto-settled (insert before a d) l (insert-settled a d h)
+
+    pub sort-settled : (l : List A) → Pairs (λ a b. before b a ≡ false) (sort before l)
+    unfolding sort
+    sort-settled l = onto-settled [] l tt
