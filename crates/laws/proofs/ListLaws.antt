@@ -31,6 +31,11 @@ module _ {A : Type 0} where
   all-at P (a ∷ l) zero d p h = h .0
   all-at P (a ∷ l) (suc i) d p h = all-at P l i d p (h .1)
 
+  pub all-below : (P : A → Type 0) (l : List A) (i : ℕ) (d : A) → All P l → i < length l → P (getD l i d)
+  all-below P [] i d h k = absurd (omega arith)
+  all-below P (a ∷ l) zero d h k = h .0
+  all-below P (a ∷ l) (suc i) d h k = all-below P l i d (h .1) (omega arith)
+
   pub tabulate-same : (f g : ℕ → A) (n : ℕ) → ((i : ℕ) → i < n → f i ≡ g i) → tabulate f n ≡ tabulate g n
   unfolding tabulate
   tabulate-same f g zero h = refl

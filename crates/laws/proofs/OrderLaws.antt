@@ -43,6 +43,25 @@ module _ {A : Type 0} (before : A → A → Bool) where
   unfolding sort count
   sort-count f l = omega (arith, onto-count f [] l)
 
+  all-insert : (P : A → Type 0) (a : A) (l : List A) → P a → All P l → All P (insert before a l)
+  unfolding insert
+  all-insert P a [] p h = (p, tt)
+  all-insert P a (b ∷ l) p h = go (before a b) (all-insert P a l p (h .1))
+    where
+      go : (t : Bool) → All P (insert before a l) → All P (cond t (a ∷ b ∷ l) (b ∷ insert before a l))
+      go true ih = (p, h)
+      go false ih = (h .0, ih)
+
+  onto-all : (P : A → Type 0) (d l : List A) → All P d → All P l → All P (sortOnto before d l)
+  unfolding sortOnto
+  onto-all P d [] g h = g
+  onto-all P d (a ∷ l) g h = onto-all P (insert before a d) l (all-insert P a d (h .0) g) (h .1)
+
+  -- what all elements keep to
+  pub sort-all : (P : A → Type 0) (l : List A) → All P l → All P (sort before l)
+  unfolding sort
+  sort-all P l h = onto-all P [] l tt h
+
   module _ (self : (a : A) → before a a ≡ false) (trans : (a b c : A) → before a b ≡ true → before b c ≡ true → before a c ≡ true) where
     abbrev Settled : A → A → Type 0
     Settled a b = before b a ≡ false
@@ -54,15 +73,6 @@ module _ {A : Type 0} (before : A → A → Bool) where
         go : (t : Bool) → before c a ≡ t → t ≡ false
         go true e = absurd (false≢true (sym q ∙ trans c a b e p))
         go false e = refl
-
-    all-insert : (P : A → Type 0) (a : A) (l : List A) → P a → All P l → All P (insert before a l)
-    unfolding insert
-    all-insert P a [] p h = (p, tt)
-    all-insert P a (b ∷ l) p h = go (before a b) (all-insert P a l p (h .1))
-      where
-        go : (t : Bool) → All P (insert before a l) → All P (cond t (a ∷ b ∷ l) (b ∷ insert before a l))
-        go true ih = (p, h)
-        go false ih = (h .0, ih)
 
     insert-settled : (a : A) (l : List A) → Pairs Settled l → Pairs Settled (insert before a l)
     unfolding insert

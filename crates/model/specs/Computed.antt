@@ -60,10 +60,10 @@ weightF h i =
     cond (allEdge (h .influence) (h .count)) oneF
     (productF (factorAtF h i) (sumF (termF h i) (h .count)) (sumF (factorAtF h) (h .count)))
 
--- 512 times the mean of the first n numbers x, weighed by w
-unfoldable pub scaledMeanF : ℕ → (ℕ → Float) → (ℕ → Float) → Float
+-- k times the mean of the first n numbers x, weighed by w
+unfoldable pub scaledMeanF : ℕ → ℕ → (ℕ → Float) → (ℕ → Float) → Float
 unfolding float mul div sumF
-scaledMeanF n w x = mul binary64 (float 512) (div binary64 (sumF (λ i. mul binary64 (w i) (x i)) n) (sumF w n))
+scaledMeanF k n w x = mul binary64 (float k) (div binary64 (sumF (λ i. mul binary64 (w i) (x i)) n) (sumF w n))
 
 -- a value less the least one, as a float
 unfoldable pub lessenedF : ℤ → ℤ → Float
@@ -73,4 +73,4 @@ lessenedF least z = float (natAbs (z -ℤ least))
 -- 512 times the mean of the values, each less the least chosen one
 unfoldable pub meanF : Neighbourhood → ℤ → Float
 unfolding weightF lessenedF scaledMeanF
-meanF h least = scaledMeanF (h .count) (weightF h) (λ i. lessenedF least (h .value i))
+meanF h least = scaledMeanF 512 (h .count) (weightF h) (λ i. lessenedF least (h .value i))

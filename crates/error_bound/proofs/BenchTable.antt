@@ -1,0 +1,30 @@
+-- The starred rows of document 01's bench table, as one theorem.
+use mathlib.Core.Path.{_≡_, refl}
+use Prim.Native.Nat.{ℕ}
+use native.Mathlib.Omega.{arith}
+use mathlib.Core.Bool.{true}
+use mathlib.Core.List.{[], _∷_}
+use lib.IntN.{negsuc}
+use Rattle.model.specs.Point.{Location, State, point, surveyOf, inDomain}
+use Rattle.model.specs.Mean.{mean}
+use Rattle.model.specs.Answer.{answer}
+use Rattle.model.specs.Examples.{StarredRows, closed-rows, Is}
+use Rattle.laws.proofs.RecordLaws.{domain-bounds}
+use Rattle.laws.proofs.OnePoint.{one-point-mean, one-point}
+use Rattle.error_bound.proofs.AnswerRight.{answer-right}
+
+-- one point, z = -7, wherever it is
+abbrev alone : ℕ → ℕ → State
+alone x y = surveyOf (point x y (negsuc 6) ∷ [])
+
+-- of one point, every location: the exact mean is -7, and the answer -1,792
+abbrev pub OnePointRow : Type 0
+OnePointRow = (x y : ℕ) (p : Location) → inDomain x y ≡ true → inDomain (p .x) (p .y) ≡ true → Is (mean (alone x y) p) (negsuc 6) 1 × (answer (alone x y) p ≡ negsuc 1791)
+
+one-point-row : OnePointRow
+one-point-row x y p h g =
+    let right = answer-right (alone x y) p (domain-bounds (p .x) (p .y) g) (omega arith) (record { location = h; value = refl }, tt) in
+    (one-point-mean x y p, one-point x y p (answer (alone x y) p) (right .near))
+
+pub starred : OnePointRow × StarredRows
+starred = (one-point-row, closed-rows)

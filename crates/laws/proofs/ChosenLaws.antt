@@ -1,0 +1,177 @@
+-- What holds of the chosen points and of R: they are some of the points, one to ten, and neither distances nor R are beyond 2²⁴ for points in the domain.
+use mathlib.Core.Path.{_≡_, refl, sym, ap, _∙_}
+use Prim.Native.Nat.{ℕ, suc, _-_, _*_, _/_, _≤_, _<_, min, max}
+use native.Mathlib.Nat.{le-refl, mul-le-mul, le-div-iff-mul-le}
+use native.Mathlib.Omega.{arith}
+use mathlib.Core.Bool.{Bool, true, false, cond}
+use mathlib.Core.List.{List, [], _∷_, map, foldl}
+use lib.Dec.{leb}
+use lib.IntN.{pos}
+use lib.ListN.{length, take, getD, length-take}
+use borrow.Author.Tests.{leb-true, leb-false}
+use Rattle.model.specs.Lists.{count, All}
+use Rattle.model.specs.Point.{Location, Point, State, point, at}
+use Rattle.model.specs.Distance.{gap, squared, distanceOf, distance}
+use Rattle.model.specs.Radius.{through, xs, ys, area, radiusOf, initialRadius}
+use Rattle.model.specs.Choice.{Choice, nearer, ordered, within, few, distanceAt, byCount, choiceApart, coincident, choice}
+use Rattle.model.specs.Calls.{taken}
+use Rattle.laws.proofs.Tests.{or-false}
+use Rattle.laws.proofs.ListLaws.{all-imp, all-take, all-at}
+use Rattle.laws.proofs.RootLaws.{root-le-iff, distance-le-iff, distance-pos}
+use Rattle.laws.proofs.OrderLaws.{sort-all, sort-count}
+use Rattle.laws.proofs.ChoiceLaws.{squared-apart, coincident-is}
+
+-- as many elements as a list is long answer to a test that all pass
+count-all : {A : Type 0} (l : List A) → count (λ a. true) l ≡ length l
+unfolding count
+count-all [] = refl
+count-all (a ∷ l) = ap suc (count-all l)
+
+-- D of a squared distance that fits 32 bits
+pub distance-most : (n : ℕ) → n < 4294967296 → distanceOf n ≤ 16777216
+distance-most n h = distance-le-iff n 16777216 .1 (omega arith)
+
+gap-most : (m n : ℕ) → m < 4096 → n < 4096 → gap m n ≤ 4095
+gap-most m n h k = omega arith
+
+through-most : (b a : ℕ) (l : List ℕ) → a ≤ b → All (λ n. n ≤ b) l → foldl max a l ≤ b
+through-most b a [] h k = h
+through-most b a (c ∷ l) h k = through-most b (max a c) l (omega (arith, k .0)) (k .1)
+
+pub max-most : (b : ℕ) (l : List ℕ) → All (λ n. n ≤ b) l → through max l ≤ b
+unfolding through
+max-most b [] h = omega arith
+max-most b (a ∷ l) h = through-most b a l (h .0) (h .1)
+
+all-map : {A B : Type 0} (P : B → Type 0) (f : A → B) (l : List A) → All (λ a. P (f a)) l → All P (map f l)
+all-map P f [] h = tt
+all-map P f (a ∷ l) h = (h .0, all-map P f l (h .1))
+
+below : (q m a : ℕ) → 355 ≤ m → q * m ≤ 65536 * 7 * 113 * a → a ≤ 16769025 → q < 16777217 * 16777217
+below q m a h k l = let g : q * 355 ≤ q * m = mul-le-mul (le-refl q) h in omega arith
+
+-- R0 of an area in the domain
+pub radius-most : (a n : ℕ) → 0 < n → a ≤ 16769025 → radiusOf a n ≤ 16777216
+unfolding radiusOf
+radius-most a n h k =
+    let q = 65536 * 7 * 113 * a / (355 * n) in
+    let m : 0 < 355 * n = omega arith in
+    root-le-iff q 16777216 .1 (below q (355 * n) a (omega arith) (le-div-iff-mul-le m .0 (le-refl q)) k)
+
+module _ (s : State) (p : Location) where
+  pub ordered-all : (P : Point → Type 0) → All P (s .points) → All P (ordered s p)
+  unfolding ordered
+  ordered-all P h = sort-all (nearer s p) P (s .points) h
+
+  pub ordered-length : length (ordered s p) ≡ length (s .points)
+  unfolding ordered
+  ordered-length = sym (count-all (ordered s p)) ∙ sort-count (nearer s p) (λ a. true) (s .points) ∙ count-all (s .points)
+
+  -- the rules by count, one after the other
+  by-count : (Q : Choice → Type 0) (n : ℕ)
+      → (n ≤ 4 → Q (record { points = take 4 (ordered s p); radius = cond (few s) 0 (distanceAt s p 4) }))
+      → (4 < n → n ≤ 10 → Q (record { points = take n (ordered s p); radius = initialRadius s }))
+      → (10 < n → Q (record { points = take 10 (ordered s p); radius = distanceAt s p 10 }))
+      → Q (byCount s p n)
+  unfolding byCount
+  by-count Q n four some ten = go (leb n 4) (leb n 10) refl refl
+    where
+      go : (t u : Bool) → leb n 4 ≡ t → leb n 10 ≡ u
+          → Q (cond t (record { points = take 4 (ordered s p); radius = cond (few s) 0 (distanceAt s p 4) })
+          (cond u (record { points = take n (ordered s p); radius = initialRadius s })
+          (record { points = take 10 (ordered s p); radius = distanceAt s p 10 })))
+      go true u e f = four (leb-true n 4 e)
+      go false true e f = some (leb-false n 4 e) (leb-true n 10 f)
+      go false false e f = ten (leb-false n 10 f)
+
+  -- the choice, with rule 1 above the others
+  by-choice : (Q : Choice → Type 0) → Q (record { points = take 1 (ordered s p); radius = 0 }) → Q (choiceApart s p) → Q (choice s p)
+  unfolding choice
+  by-choice Q one apart = go (coincident s p)
+    where
+      go : (t : Bool) → Q (cond t (record { points = take 1 (ordered s p); radius = 0 }) (choiceApart s p))
+      go true = one
+      go false = apart
+
+  -- each chosen point is one of the points
+  apart-all : (P : Point → Type 0) → All P (s .points) → All P (choiceApart s p .points)
+  unfolding choiceApart
+  apart-all P h =
+      by-count (λ c. All P (c .points)) (within s p)
+      (λ l. all-take P 4 (ordered s p) (ordered-all P h))
+      (λ k l. all-take P (within s p) (ordered s p) (ordered-all P h))
+      (λ l. all-take P 10 (ordered s p) (ordered-all P h))
+
+  pub chosen-all : (P : Point → Type 0) → All P (s .points) → All P (choice s p .points)
+  chosen-all P h = by-choice (λ c. All P (c .points)) (all-take P 1 (ordered s p) (ordered-all P h)) (apart-all P h)
+
+  -- how many are chosen
+  taken-some : (k : ℕ) → 0 < k → 0 < length (s .points) → 0 < length (take k (ordered s p))
+  taken-some k h n = omega (arith, length-take k (ordered s p), ordered-length)
+
+  taken-most : (k : ℕ) → k ≤ 10 → length (take k (ordered s p)) ≤ 10
+  taken-most k h = omega (arith, length-take k (ordered s p))
+
+  pub chosen-some : 0 < length (s .points) → 0 < length (choice s p .points)
+  unfolding choiceApart
+  chosen-some n =
+      by-choice (λ c. 0 < length (c .points)) (taken-some 1 (omega arith) n)
+      (by-count (λ c. 0 < length (c .points)) (within s p)
+      (λ l. taken-some 4 (omega arith) n) (λ k l. taken-some (within s p) (omega arith) n) (λ l. taken-some 10 (omega arith) n))
+
+  pub chosen-most : length (choice s p .points) ≤ 10
+  unfolding choiceApart
+  chosen-most =
+      by-choice (λ c. length (c .points) ≤ 10) (taken-most 1 (omega arith))
+      (by-count (λ c. length (c .points) ≤ 10) (within s p)
+      (λ l. taken-most 4 (omega arith)) (λ k l. taken-most (within s p) l) (λ l. taken-most 10 (omega arith)))
+
+  -- where no point is at p, no chosen one is
+  apart-points : (l : List Point) → taken (p .x) (p .y) l ≡ false → All (λ a. at (p .x) (p .y) a ≡ false) l
+  apart-points [] h = tt
+  apart-points (a ∷ l) h = let e = or-false (at (p .x) (p .y) a) (taken (p .x) (p .y) l) h in (e .0, apart-points l (e .1))
+
+  pub chosen-apart : coincident s p ≡ false → All (λ a. 0 < distance s p a) (choice s p .points)
+  unfolding distance
+  chosen-apart h =
+      all-imp (λ a. at (p .x) (p .y) a ≡ false) (λ a. 0 < distance s p a)
+      (λ a e. distance-pos (squared s p a) (squared-apart s p a e))
+      (choice s p .points)
+      (chosen-all (λ a. at (p .x) (p .y) a ≡ false) (apart-points (s .points) (sym (coincident-is s p) ∙ h)))
+
+  module _ (domain : (p .x < 4096) × (p .y < 4096)) where
+    pub point-most : (a : Point) → (a .x < 4096) × (a .y < 4096) → distance s p a ≤ 16777216
+    unfolding distance squared
+    point-most a h =
+        let g : gap (p .x) (a .x) ≤ 4095 = gap-most (p .x) (a .x) (domain .0) (h .0) in
+        let k : gap (p .y) (a .y) ≤ 4095 = gap-most (p .y) (a .y) (domain .1) (h .1) in
+        let u = mul-le-mul g g in
+        let v = mul-le-mul k k in
+        distance-most (squared s p a) (omega arith)
+
+    module _ (some : 0 < length (s .points)) (sheet : All (λ a. (a .x < 4096) × (a .y < 4096)) (s .points)) where
+      distanceAt-most : (i : ℕ) → distanceAt s p i ≤ 16777216
+      unfolding distanceAt
+      distanceAt-most i =
+          point-most (getD (ordered s p) i (point 0 0 (pos 0)))
+          (all-at (λ a. (a .x < 4096) × (a .y < 4096)) (ordered s p) i (point 0 0 (pos 0)) (omega arith, omega arith) (ordered-all (λ a. (a .x < 4096) × (a .y < 4096)) sheet))
+
+      initial-most : initialRadius s ≤ 16777216
+      unfolding initialRadius area
+      initial-most =
+          let x = max-most 4095 (xs s) (all-map (λ n. n ≤ 4095) (λ (a : Point). a .x) (s .points) (all-imp (λ a. (a .x < 4096) × (a .y < 4096)) (λ a. a .x ≤ 4095) (λ a h. omega (arith, h .0)) (s .points) sheet)) in
+          let y = max-most 4095 (ys s) (all-map (λ n. n ≤ 4095) (λ (a : Point). a .y) (s .points) (all-imp (λ a. (a .x < 4096) × (a .y < 4096)) (λ a. a .y ≤ 4095) (λ a h. omega (arith, h .1)) (s .points) sheet)) in
+          let u : through max (xs s) - through min (xs s) ≤ 4095 = omega arith in
+          let v : through max (ys s) - through min (ys s) ≤ 4095 = omega arith in
+          radius-most (area s) (length (s .points)) some (mul-le-mul u v)
+
+      few-most : (t : Bool) (n : ℕ) → n ≤ 16777216 → cond t 0 n ≤ 16777216
+      few-most true n h = omega arith
+      few-most false n h = h
+
+      pub chosen-radius : choice s p .radius ≤ 16777216
+      unfolding choiceApart
+      chosen-radius =
+          by-choice (λ c. c .radius ≤ 16777216) (omega arith)
+          (by-count (λ c. c .radius ≤ 16777216) (within s p)
+          (λ l. few-most (few s) (distanceAt s p 4) (distanceAt-most 4)) (λ k l. initial-most) (λ l. distanceAt-most 10))

@@ -1,0 +1,124 @@
+-- The least and the greatest value of a list of points: no value is beyond them, and they keep to what all values keep to.
+use mathlib.Core.Path.{_≡_, refl, sym, ap, ap₂, _∙_}
+use Prim.Native.Nat.{_+_, _≤_}
+use native.Mathlib.Omega.{arith}
+use mathlib.Core.Bool.{Bool, true, false, cond, and-eq-true-iff, false≢true}
+use mathlib.Core.List.{List, [], _∷_, map, foldl}
+use lib.IntN.{ℤ, pos, negsuc, natAbs, _+ℤ_, _-ℤ_}
+use lib.Signed.{leZ, _≤ℤ_, ≤ℤ-refl}
+use borrow.Author.Tests.{leb-false}
+use Rattle.model.specs.Lists.{All}
+use Rattle.model.specs.Point.{Point, inRange}
+use Rattle.model.specs.Distance.{gap}
+use Rattle.model.specs.Mean.{lesser, greater, valuesBy}
+use Rattle.laws.proofs.DiffLaws.{up, down, diff-of, diff-pos, diff-plus, diff-minus, diff-same, abs-diff, parts-of-le, le-of-parts}
+
+pub ≤ℤ-trans : (a b c : ℤ) → a ≤ℤ b → b ≤ℤ c → a ≤ℤ c
+≤ℤ-trans a b c h k = le-of-parts a c (omega (arith, parts-of-le a b h, parts-of-le b c k))
+
+leZ-true : (a b : ℤ) → leZ a b ≡ true → a ≤ℤ b
+leZ-true a b e = record { le = rw e tt }
+
+leZ-false : (a b : ℤ) → leZ a b ≡ false → b ≤ℤ a
+leZ-false (pos m) (pos n) e = le-of-parts (pos n) (pos m) (omega (arith, leb-false m n e))
+leZ-false (pos m) (negsuc n) e = record { le = tt }
+leZ-false (negsuc m) (pos n) e = absurd (false≢true (sym e))
+leZ-false (negsuc m) (negsuc n) e = le-of-parts (negsuc n) (negsuc m) (omega (arith, leb-false n m e))
+
+-- an operation that gives one of its two operands
+module _ (op : ℤ → ℤ → ℤ) (P : ℤ → Type 0) (one : (a b : ℤ) → P a → P b → P (op a b)) where
+  fold-keeps : (m : ℤ) (l : List Point) → P m → All (λ a. P (a .z)) l → P (foldl op m (map (λ (b : Point). b .z) l))
+  fold-keeps m [] p h = p
+  fold-keeps m (a ∷ l) p h = fold-keeps (op m (a .z)) l (one m (a .z) p (h .0)) (h .1)
+
+  values-keep : (l : List Point) → P (pos 0) → All (λ a. P (a .z)) l → P (valuesBy op l)
+  unfolding valuesBy
+  values-keep [] p h = p
+  values-keep (a ∷ l) p h = fold-keeps (a .z) l (h .0) (h .1)
+
+-- an operation whose result is beyond neither operand, on the side that R tells
+module _ (op : ℤ → ℤ → ℤ) (R : ℤ → ℤ → Type 0) (self : (a : ℤ) → R a a) (trans : (a b c : ℤ) → R a b → R b c → R a c)
+    (left : (a b : ℤ) → R (op a b) a) (right : (a b : ℤ) → R (op a b) b) where
+  fold-start : (m : ℤ) (l : List Point) → R (foldl op m (map (λ (b : Point). b .z) l)) m
+  fold-start m [] = self m
+  fold-start m (a ∷ l) = trans (foldl op (op m (a .z)) (map (λ (b : Point). b .z) l)) (op m (a .z)) m (fold-start (op m (a .z)) l) (left m (a .z))
+
+  fold-all : (m : ℤ) (l : List Point) → All (λ a. R (foldl op m (map (λ (b : Point). b .z) l)) (a .z)) l
+  fold-all m [] = tt
+  fold-all m (a ∷ l) =
+      (trans (foldl op (op m (a .z)) (map (λ (b : Point). b .z) l)) (op m (a .z)) (a .z) (fold-start (op m (a .z)) l) (right m (a .z)), fold-all (op m (a .z)) l)
+
+  values-all : (l : List Point) → All (λ a. R (valuesBy op l) (a .z)) l
+  unfolding valuesBy
+  values-all [] = tt
+  values-all (a ∷ l) = (fold-start (a .z) l, fold-all (a .z) l)
+
+lesser-left : (a b : ℤ) → lesser a b ≤ℤ a
+lesser-left a b = go (leZ a b) refl
+  where
+    go : (t : Bool) → leZ a b ≡ t → cond t a b ≤ℤ a
+    go true e = ≤ℤ-refl a
+    go false e = leZ-false a b e
+
+lesser-right : (a b : ℤ) → lesser a b ≤ℤ b
+lesser-right a b = go (leZ a b) refl
+  where
+    go : (t : Bool) → leZ a b ≡ t → cond t a b ≤ℤ b
+    go true e = leZ-true a b e
+    go false e = ≤ℤ-refl b
+
+greater-left : (a b : ℤ) → a ≤ℤ greater a b
+greater-left a b = go (leZ a b) refl
+  where
+    go : (t : Bool) → leZ a b ≡ t → a ≤ℤ cond t b a
+    go true e = leZ-true a b e
+    go false e = ≤ℤ-refl a
+
+greater-right : (a b : ℤ) → b ≤ℤ greater a b
+greater-right a b = go (leZ a b) refl
+  where
+    go : (t : Bool) → leZ a b ≡ t → b ≤ℤ cond t b a
+    go true e = ≤ℤ-refl b
+    go false e = leZ-false a b e
+
+pub least-all : (l : List Point) → All (λ a. valuesBy lesser l ≤ℤ a .z) l
+least-all l = values-all lesser _≤ℤ_ ≤ℤ-refl ≤ℤ-trans lesser-left lesser-right l
+
+pub greatest-all : (l : List Point) → All (λ a. a .z ≤ℤ valuesBy greater l) l
+greatest-all l = values-all greater (λ a b. b ≤ℤ a) ≤ℤ-refl (λ a b c h k. ≤ℤ-trans c b a k h) greater-left greater-right l
+
+one-of : (P : ℤ → Type 0) (t : Bool) (a b : ℤ) → P a → P b → P (cond t a b)
+one-of P true a b p q = p
+one-of P false a b p q = q
+
+pub least-keeps : (P : ℤ → Type 0) (l : List Point) → P (pos 0) → All (λ a. P (a .z)) l → P (valuesBy lesser l)
+least-keeps P l z h = values-keep lesser P (λ a b p q. one-of P (leZ a b) a b p q) l z h
+
+pub greatest-keeps : (P : ℤ → Type 0) (l : List Point) → P (pos 0) → All (λ a. P (a .z)) l → P (valuesBy greater l)
+greatest-keeps P l z h = values-keep greater P (λ a b p q. one-of P (leZ a b) b a q p) l z h
+
+-- the ends of the value range
+pub range-ends : (z : ℤ) → inRange z ≡ true → (negsuc 127 ≤ℤ z) × (z ≤ℤ pos 127)
+range-ends z h =
+    let t = and-eq-true-iff (leZ (negsuc 127) z) (leZ z (pos 127)) .0 h in
+    (leZ-true (negsuc 127) z (t .0), leZ-true z (pos 127) (t .1))
+
+pub abs-apart : (z w : ℤ) → natAbs (z -ℤ w) ≡ gap (up z + down w) (down z + up w)
+abs-apart z w = ap natAbs (ap₂ _-ℤ_ (diff-of z) (diff-of w) ∙ diff-minus (up z) (down z) (up w) (down w)) ∙ abs-diff (up z + down w) (down z + up w)
+
+-- what a number is above another one
+pub above : (least z : ℤ) → least ≤ℤ z → z ≡ least +ℤ pos (natAbs (z -ℤ least))
+above least z h =
+    let e = abs-apart z least in
+    let l = parts-of-le least z h in
+    diff-of z
+    ∙ diff-same (up z) (down z) (up least + natAbs (z -ℤ least)) (down least + 0) (omega arith)
+    ∙ sym (ap₂ _+ℤ_ (diff-of least) (diff-pos (natAbs (z -ℤ least))) ∙ diff-plus (up least) (down least) (natAbs (z -ℤ least)) 0)
+
+-- two values in range are at most 255 apart
+pub spread : (least z : ℤ) → inRange least ≡ true → inRange z ≡ true → natAbs (z -ℤ least) ≤ 255
+spread least z g h =
+    let e = abs-apart z least in
+    let a = range-ends least g in
+    let b = range-ends z h in
+    omega (arith, parts-of-le (negsuc 127) least (a .0), parts-of-le least (pos 127) (a .1), parts-of-le (negsuc 127) z (b .0), parts-of-le z (pos 127) (b .1))

@@ -1,0 +1,22 @@
+-- That a struct holds the neighbours of a location: the choice of document 01, with d² and D beside each point.
+use mathlib.Core.Path.{_≡_}
+use Prim.Native.Nat.{_≤_}
+use mathlib.Core.List.{map}
+use lib.ListN.{length, take}
+use Rattle.model.specs.Point.{Location, Point, State}
+use Rattle.model.specs.Distance.{squared, distance}
+use Rattle.model.specs.Choice.{choice, few}
+use Rattle.neighbours.specs.declared.Neighbour.{Neighbour}
+use Rattle.neighbours.specs.declared.Chosen.{Chosen}
+
+-- a point of s, seen from p
+unfoldable pub neighbourAt : State → Location → Point → Neighbour
+unfolding squared distance
+neighbourAt s p a = record { x = a .x; y = a .y; z = a .z; squared = squared s p a; distance = distance s p a }
+
+pub record Chose (s : State) (p : Location) (c : Chosen) : Type 0 where
+  pub size : c .count ≤ 10
+  pub count : c .count ≡ length (choice s p .points)
+  pub items : take (c .count) (c .items) ≡ map (neighbourAt s p) (choice s p .points)
+  pub radius : c .radius ≡ choice s p .radius
+  pub few : c .few ≡ few s

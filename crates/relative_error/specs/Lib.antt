@@ -1,0 +1,2 @@
+-- The definitions that the contracts and the laws of this crate cite.
+pub mod Close

@@ -1,0 +1,51 @@
+// Floats that are not negative against exact numbers: a whole number as a float, and the whole part of a float found by comparing.
+// The laws of relative error are in proofs/.
+ghost use mathlib.Core.Path.{_≡_};
+ghost use Prim.Native.Nat.{_*_, _/_, _<_, _≤_};
+ghost use lib.Dec.{T, leb};
+ghost use lib.Ieee.Positive.{num, den};
+ghost use Rattle.model.specs.Computed.{float};
+ghost use Rattle.model.specs.Answer.{nearestHalf};
+ghost use Rattle.relative_error.specs.Close.{plain};
+
+// A whole number up to 2⁵³ as a float, exactly.
+pub fn to_float(n: u64) -> f64
+    requires { ⌜ n ≤ 9007199254740992 ⌝ }
+    ensures { λ x. ⌜ x ≡ float n ⌝ }
+{
+    n as f64
+}
+
+// Whether a whole number is at most y, which is not negative.
+fn at_most(m: u64, y: f64) -> bool
+    requires { ⌜ (m ≤ 9007199254740992) × T (plain y) ⌝ }
+    ensures { λ r. ⌜ r ≡ leb (m * den y) (num y) ⌝ }
+{
+    to_float(m) <= y
+}
+
+// The whole part of a float that is not negative and below 4,194,304.
+pub fn whole_part(y: f64) -> u64
+    requires { ⌜ T (plain y) × (num y < 4194304 * den y) ⌝ }
+    ensures { λ k. ⌜ (k ≡ num y / den y) × (k < 4194304) ⌝ }
+{
+    let mut low = 0u64;
+    let mut high = 4194304u64;
+    while high - low > 1 {
+        let m = low + (high - low) / 2;
+        if at_most(m, y) {
+            low = m;
+        } else {
+            high = m;
+        }
+    }
+    low
+}
+
+// The whole number nearest to half of y: to 256 times the mean, where y is 512 times the mean.
+pub fn nearest_half(y: f64) -> u64
+    requires { ⌜ T (plain y) × (num y < 4194304 * den y) ⌝ }
+    ensures { λ k. ⌜ (k ≡ nearestHalf y) × (k ≤ 2097152) ⌝ }
+{
+    (whole_part(y) + 1) / 2
+}
