@@ -1,5 +1,5 @@
 -- Demand 3 of a single lookup: in a survey in range, its points in any order, every answer is near the exact mean and between the least and the greatest chosen value.
-use mathlib.Core.Path.{_≡_, refl, sym, ap₂, _∙_}
+use mathlib.Core.Path.{_≡_, refl, sym}
 use Prim.Native.Nat.{ℕ, _+_, _*_, _≤_, _<_}
 use native.Mathlib.Nat.{le-trans, le-of-eq, one-mul, mul-le-mul-right}
 use native.Mathlib.Omega.{arith}
@@ -18,31 +18,14 @@ use Rattle.model.specs.Computed.{meanF}
 use Rattle.model.specs.Answer.{nearestHalf, answer}
 use Rattle.model.specs.Invariant.{Sound}
 use Rattle.laws.proofs.ListLaws.{all-imp, all-below}
-use Rattle.laws.proofs.DiffLaws.{diff, up, down, diff-of, diff-pos, diff-plus, diff-minus, diff-times, diff-le, diff-same, abs-diff, parts-of-le}
-use Rattle.laws.proofs.ValueLaws.{≤ℤ-trans, least-all, greatest-all, least-keeps, greatest-keeps, range-ends, abs-apart}
+use Rattle.laws.proofs.DiffLaws.{up, down, diff-of, diff-pos, diff-minus, diff-times, diff-le, abs-diff, parts-of-le}
+use Rattle.laws.proofs.ValueLaws.{≤ℤ-trans, least-all, greatest-all, least-keeps, greatest-keeps, range-ends, abs-apart, scaled, scaled-le, raised}
 use Rattle.laws.proofs.ChosenLaws.{chosen-all, chosen-some}
 use Rattle.error_bound.proofs.Means.{meanOf}
 use Rattle.error_bound.proofs.MeanError.{mean-most}
 use Rattle.error_bound.proofs.LessenedMean.{lessened, lessened-near, lessened-proper}
 use Rattle.error_bound.proofs.AnswerNear.{answer-near}
 use Rattle.error_bound.proofs.InRange.{neighbourhood-fair, neighbourhood-spread}
-
--- 256 times a number, as a difference
-scaled : (z : ℤ) → pos 256 *ℤ z ≡ diff (256 * up z) (256 * down z)
-scaled z =
-    ap₂ _*ℤ_ (diff-pos 256) (diff-of z)
-    ∙ diff-times 256 0 (up z) (down z)
-    ∙ diff-same (256 * up z + 0 * down z) (256 * down z + 0 * up z) (256 * up z) (256 * down z) (omega arith)
-
-scaled-le : (z w : ℤ) → z ≤ℤ w → (pos 256 *ℤ z) ≤ℤ (pos 256 *ℤ w)
-scaled-le z w h = rw (scaled z, scaled w) (diff-le (256 * up z) (256 * down z) (256 * up w) (256 * down w) (omega (arith, parts-of-le z w h)))
-
--- a number raised by another that is not negative
-raised : (z : ℤ) (k : ℕ) → (pos 256 *ℤ z) +ℤ pos k ≡ diff (256 * up z + k) (256 * down z)
-raised z k =
-    ap₂ _+ℤ_ (scaled z) (diff-pos k)
-    ∙ diff-plus (256 * up z) (256 * down z) k 0
-    ∙ diff-same (256 * up z + k) (256 * down z + 0) (256 * up z + k) (256 * down z) (omega arith)
 
 raised-least : (z : ℤ) (k : ℕ) → (pos 256 *ℤ z) ≤ℤ ((pos 256 *ℤ z) +ℤ pos k)
 raised-least z k = rw (raised z k, scaled z) (diff-le (256 * up z) (256 * down z) (256 * up z + k) (256 * down z) (omega arith))

@@ -1,31 +1,27 @@
 -- What holds of the chosen points and of R: they are some of the points, one to ten, and neither distances nor R are beyond 2²⁴ for points in the domain.
 use mathlib.Core.Path.{_≡_, refl, sym, ap, _∙_}
-use Prim.Native.Nat.{ℕ, suc, _-_, _*_, _/_, _≤_, _<_, min, max}
+use Prim.Native.Nat.{ℕ, _-_, _*_, _/_, _≤_, _<_, min, max}
 use native.Mathlib.Nat.{le-refl, mul-le-mul, le-div-iff-mul-le}
 use native.Mathlib.Omega.{arith}
-use mathlib.Core.Bool.{Bool, true, false, cond}
-use mathlib.Core.List.{List, [], _∷_, map, foldl}
+use mathlib.Core.Bool.{Bool, true, false, cond, false≢true}
+use mathlib.Core.List.{List, [], _∷_, foldl}
 use lib.Dec.{leb}
 use lib.IntN.{pos}
 use lib.ListN.{length, take, getD, length-take}
 use borrow.Author.Tests.{leb-true, leb-false}
-use Rattle.model.specs.Lists.{count, All}
+use Rattle.model.specs.Lists.{All}
 use Rattle.model.specs.Point.{Location, Point, State, point, at}
 use Rattle.model.specs.Distance.{gap, squared, distanceOf, distance}
 use Rattle.model.specs.Radius.{through, xs, ys, area, radiusOf, initialRadius}
-use Rattle.model.specs.Choice.{Choice, nearer, ordered, within, few, distanceAt, byCount, choiceApart, coincident, choice}
+use Rattle.model.specs.Choice.{Choice, nearer, ordered, within, few, distanceAt, byCount, choiceApart, startsAt, coincident, choice}
+use Rattle.model.specs.Mean.{firstChosen}
 use Rattle.model.specs.Calls.{taken}
 use Rattle.laws.proofs.Tests.{or-false}
-use Rattle.laws.proofs.ListLaws.{all-imp, all-take, all-at}
+use Rattle.laws.proofs.ListLaws.{all-imp, all-take, all-at, all-below, all-map}
 use Rattle.laws.proofs.RootLaws.{root-le-iff, distance-le-iff, distance-pos}
-use Rattle.laws.proofs.OrderLaws.{sort-all, sort-count}
-use Rattle.laws.proofs.ChoiceLaws.{squared-apart, coincident-is}
-
--- as many elements as a list is long answer to a test that all pass
-count-all : {A : Type 0} (l : List A) → count (λ a. true) l ≡ length l
-unfolding count
-count-all [] = refl
-count-all (a ∷ l) = ap suc (count-all l)
+use Rattle.laws.proofs.OrderLaws.{sort-all}
+use Rattle.laws.proofs.NearestLaws.{length-ordered, choice-coincident}
+use Rattle.laws.proofs.ChoiceLaws.{squared-zero, squared-apart, coincident-is}
 
 -- D of a squared distance that fits 32 bits
 pub distance-most : (n : ℕ) → n < 4294967296 → distanceOf n ≤ 16777216
@@ -43,10 +39,6 @@ unfolding through
 max-most b [] h = omega arith
 max-most b (a ∷ l) h = through-most b a l (h .0) (h .1)
 
-all-map : {A B : Type 0} (P : B → Type 0) (f : A → B) (l : List A) → All (λ a. P (f a)) l → All P (map f l)
-all-map P f [] h = tt
-all-map P f (a ∷ l) h = (h .0, all-map P f l (h .1))
-
 below : (q m a : ℕ) → 355 ≤ m → q * m ≤ 65536 * 7 * 113 * a → a ≤ 16769025 → q < 16777217 * 16777217
 below q m a h k l = let g : q * 355 ≤ q * m = mul-le-mul (le-refl q) h in omega arith
 
@@ -62,10 +54,6 @@ module _ (s : State) (p : Location) where
   pub ordered-all : (P : Point → Type 0) → All P (s .points) → All P (ordered s p)
   unfolding ordered
   ordered-all P h = sort-all (nearer s p) P (s .points) h
-
-  pub ordered-length : length (ordered s p) ≡ length (s .points)
-  unfolding ordered
-  ordered-length = sym (count-all (ordered s p)) ∙ sort-count (nearer s p) (λ a. true) (s .points) ∙ count-all (s .points)
 
   -- the rules by count, one after the other
   by-count : (Q : Choice → Type 0) (n : ℕ)
@@ -107,7 +95,7 @@ module _ (s : State) (p : Location) where
 
   -- how many are chosen
   taken-some : (k : ℕ) → 0 < k → 0 < length (s .points) → 0 < length (take k (ordered s p))
-  taken-some k h n = omega (arith, length-take k (ordered s p), ordered-length)
+  taken-some k h n = omega (arith, length-take k (ordered s p), length-ordered s p)
 
   taken-most : (k : ℕ) → k ≤ 10 → length (take k (ordered s p)) ≤ 10
   taken-most k h = omega (arith, length-take k (ordered s p))
@@ -175,3 +163,18 @@ module _ (s : State) (p : Location) where
           by-choice (λ c. c .radius ≤ 16777216) (omega arith)
           (by-count (λ c. c .radius ≤ 16777216) (within s p)
           (λ l. few-most (few s) (distanceAt s p 4) (distanceAt-most 4)) (λ k l. initial-most) (λ l. distanceAt-most 10))
+
+-- the first chosen point is at p exactly where some point is
+module _ (s : State) (p : Location) where
+  starts-zero : (l : List Point) → startsAt p l ≡ true → distance s p (getD (take 1 l) 0 (point 0 0 (pos 0))) ≡ 0
+  unfolding startsAt distance
+  starts-zero [] h = absurd (false≢true h)
+  starts-zero (a ∷ l) h = ap distanceOf (squared-zero s p a .1 h)
+
+  pub first-at : coincident s p ≡ true → distance s p (firstChosen s p) ≡ 0
+  unfolding firstChosen coincident
+  first-at h = ap (λ (c : Choice). distance s p (getD (c .points) 0 (point 0 0 (pos 0)))) (choice-coincident s p h) ∙ starts-zero (ordered s p) h
+
+  pub first-apart : 0 < length (s .points) → coincident s p ≡ false → 0 < distance s p (firstChosen s p)
+  unfolding firstChosen
+  first-apart n h = all-below (λ a. 0 < distance s p a) (choice s p .points) 0 (point 0 0 (pos 0)) (chosen-apart s p h) (chosen-some s p n)

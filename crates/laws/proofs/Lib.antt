@@ -7,7 +7,9 @@ pub mod ValueLaws
 pub mod RootLaws
 pub mod PrecedesLaws
 pub mod OrderLaws
+pub mod SortLaws
 pub mod ChoiceLaws
+pub mod NearestLaws
 pub mod ChosenLaws
 pub mod InnerLaws
 pub mod PlainMean

@@ -3,7 +3,7 @@ use mathlib.Core.Path.{_≡_, refl}
 use Prim.Native.Nat.{ℕ, zero, suc, _+_, _<_}
 use native.Mathlib.Numerals.{add-one}
 use native.Mathlib.Omega.{arith}
-use mathlib.Core.List.{List, [], _∷_, _++_, flatMap, append-assoc}
+use mathlib.Core.List.{List, [], _∷_, _++_, map, flatMap, append-assoc}
 use lib.ListN.{length, take, drop, getD, length-append}
 use Rattle.model.specs.Lists.{tabulate, All, Bytes}
 
@@ -35,6 +35,19 @@ module _ {A : Type 0} where
   all-below P [] i d h k = absurd (omega arith)
   all-below P (a ∷ l) zero d h k = h .0
   all-below P (a ∷ l) (suc i) d h k = all-below P l i d (h .1) (omega arith)
+
+  pub all-append : (P : A → Type 0) (l m : List A) → All P l → All P m → All P (l ++ m)
+  all-append P [] m h g = g
+  all-append P (a ∷ l) m h g = (h .0, all-append P l m (h .1) g)
+
+  pub all-map : {B : Type 0} (P : B → Type 0) (f : A → B) (l : List A) → All (λ a. P (f a)) l → All P (map f l)
+  all-map P f [] h = tt
+  all-map P f (a ∷ l) h = (h .0, all-map P f l (h .1))
+
+  pub all-tabulate : (P : A → Type 0) (f : ℕ → A) (n : ℕ) → ((i : ℕ) → i < n → P (f i)) → All P (tabulate f n)
+  unfolding tabulate
+  all-tabulate P f zero h = tt
+  all-tabulate P f (suc n) h = all-append P (tabulate f n) (f n ∷ []) (all-tabulate P f n (λ i l. h i (omega arith))) (h n (omega arith), tt)
 
   pub tabulate-same : (f g : ℕ → A) (n : ℕ) → ((i : ℕ) → i < n → f i ≡ g i) → tabulate f n ≡ tabulate g n
   unfolding tabulate

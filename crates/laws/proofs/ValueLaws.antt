@@ -1,17 +1,18 @@
 -- The least and the greatest value of a list of points: no value is beyond them, and they keep to what all values keep to.
 use mathlib.Core.Path.{_≡_, refl, sym, ap, ap₂, _∙_}
-use Prim.Native.Nat.{_+_, _≤_}
+use Prim.Native.Nat.{ℕ, suc, _+_, _*_, _≤_, _<_}
 use native.Mathlib.Omega.{arith}
 use mathlib.Core.Bool.{Bool, true, false, cond, and-eq-true-iff, false≢true}
 use mathlib.Core.List.{List, [], _∷_, map, foldl}
-use lib.IntN.{ℤ, pos, negsuc, natAbs, _+ℤ_, _-ℤ_}
-use lib.Signed.{leZ, _≤ℤ_, ≤ℤ-refl}
-use borrow.Author.Tests.{leb-false}
+use lib.IntN.{ℤ, pos, negsuc, natAbs, _+ℤ_, _-ℤ_, _*ℤ_}
+use lib.Dec.{leb}
+use lib.Signed.{mag, leZ, _≤ℤ_, ≤ℤ-refl}
+use borrow.Author.Tests.{le-leb, leb-false}
 use Rattle.model.specs.Lists.{All}
 use Rattle.model.specs.Point.{Point, inRange}
 use Rattle.model.specs.Distance.{gap}
 use Rattle.model.specs.Mean.{lesser, greater, valuesBy}
-use Rattle.laws.proofs.DiffLaws.{up, down, diff-of, diff-pos, diff-plus, diff-minus, diff-same, abs-diff, parts-of-le, le-of-parts}
+use Rattle.laws.proofs.DiffLaws.{diff, up, down, diff-of, diff-pos, diff-plus, diff-minus, diff-times, diff-same, abs-diff, parts-of-le, le-of-parts, diff-le}
 
 pub ≤ℤ-trans : (a b c : ℤ) → a ≤ℤ b → b ≤ℤ c → a ≤ℤ c
 ≤ℤ-trans a b c h k = le-of-parts a c (omega (arith, parts-of-le a b h, parts-of-le b c k))
@@ -103,6 +104,11 @@ range-ends z h =
     let t = and-eq-true-iff (leZ (negsuc 127) z) (leZ z (pos 127)) .0 h in
     (leZ-true (negsuc 127) z (t .0), leZ-true z (pos 127) (t .1))
 
+-- what eight bits with a sign hold is in range
+pub byte-range : (z : ℤ) → mag z < 128 → inRange z ≡ true
+byte-range (pos n) h = le-leb n 127 (omega arith)
+byte-range (negsuc n) h = and-eq-true-iff (leb n 127) true .1 (le-leb n 127 (omega arith), refl)
+
 pub abs-apart : (z w : ℤ) → natAbs (z -ℤ w) ≡ gap (up z + down w) (down z + up w)
 abs-apart z w = ap natAbs (ap₂ _-ℤ_ (diff-of z) (diff-of w) ∙ diff-minus (up z) (down z) (up w) (down w)) ∙ abs-diff (up z + down w) (down z + up w)
 
@@ -122,3 +128,25 @@ spread least z g h =
     let a = range-ends least g in
     let b = range-ends z h in
     omega (arith, parts-of-le (negsuc 127) least (a .0), parts-of-le least (pos 127) (a .1), parts-of-le (negsuc 127) z (b .0), parts-of-le z (pos 127) (b .1))
+
+-- 256 times a number, as a difference
+pub scaled : (z : ℤ) → pos 256 *ℤ z ≡ diff (256 * up z) (256 * down z)
+scaled z =
+    ap₂ _*ℤ_ (diff-pos 256) (diff-of z)
+    ∙ diff-times 256 0 (up z) (down z)
+    ∙ diff-same (256 * up z + 0 * down z) (256 * down z + 0 * up z) (256 * up z) (256 * down z) (omega arith)
+
+pub scaled-le : (z w : ℤ) → z ≤ℤ w → (pos 256 *ℤ z) ≤ℤ (pos 256 *ℤ w)
+scaled-le z w h = rw (scaled z, scaled w) (diff-le (256 * up z) (256 * down z) (256 * up w) (256 * down w) (omega (arith, parts-of-le z w h)))
+
+-- a number raised by another that is not negative
+pub raised : (z : ℤ) (k : ℕ) → (pos 256 *ℤ z) +ℤ pos k ≡ diff (256 * up z + k) (256 * down z)
+raised z k =
+    ap₂ _+ℤ_ (scaled z) (diff-pos k)
+    ∙ diff-plus (256 * up z) (256 * down z) k 0
+    ∙ diff-same (256 * up z + k) (256 * down z + 0) (256 * up z + k) (256 * down z) (omega arith)
+
+-- a number from -(n + 1) to n
+pub mag-below : (z : ℤ) (n : ℕ) → negsuc n ≤ℤ z → z ≤ℤ pos n → mag z < suc n
+mag-below (pos m) n h k = omega (arith, parts-of-le (pos m) (pos n) k)
+mag-below (negsuc m) n h k = omega (arith, parts-of-le (negsuc n) (negsuc m) h)

@@ -1,4 +1,16 @@
 // Which points a lookup goes by: document 01, "Search radius" and "Who is chosen", over lent arrays and a count.
+mod buffer;
+mod choice;
+mod extent;
+
+ghost use mathlib.Core.Path.{_≡_};
+ghost use mathlib.Core.List.{List};
+ghost use Prim.Native.Nat.{_<_};
+ghost use lib.IntN.{ℤ};
+ghost use Rattle.model.specs.Point.{location};
+ghost use Rattle.model.specs.Radius.{initialRadius};
+ghost use Rattle.columns.specs.Columns.{surveyIn};
+ghost use Rattle.neighbours.specs.Chose.{Chose};
 
 // A chosen point with its squared distance d² and its distance D.
 pub struct Neighbour {
@@ -15,4 +27,61 @@ pub struct Chosen {
     pub count: usize,
     pub radius: u32,
     pub few: bool,
+}
+
+// A point with its squared distance, before it is known whether it is chosen.
+struct Candidate {
+    x: u16,
+    y: u16,
+    z: i8,
+    squared: u32,
+}
+
+// The nearest of the points passed, the first `count` of `items`, in order.
+struct Candidates {
+    items: [Candidate; 11],
+    count: usize,
+}
+
+// How many of the nearest are chosen, and the radius R.
+struct Selection {
+    count: usize,
+    radius: u32,
+}
+
+// R0 of the points; 0 of none.
+pub fn initial_radius<'a>(xs: &'a [u16; 256], ys: &'a [u16; 256], n: usize) -> u32
+    ensures { λ r. ⌜ ((zs : List ℤ) → r ≡ initialRadius (surveyIn (now (xs .entry)) (now (ys .entry)) zs n)) ⌝ }
+{
+    let m = columns::clamped(n);
+    if m == 0 {
+        return 0;
+    }
+    let wide = extent::span(xs, m) as u64;
+    let high = extent::span(ys, m) as u64;
+    root::radius_of(wide * high, m as u64)
+}
+
+// The neighbours of (px, py). Rules 2 to 5 stand alone in `choice::apart`, for a lookup where no point is at the location.
+pub fn choose<'a>(
+    xs: &'a [u16; 256],
+    ys: &'a [u16; 256],
+    zs: &'a [i8; 256],
+    n: usize,
+    px: u16,
+    py: u16,
+) -> Chosen
+    requires { ⌜ (px < 4096) × (py < 4096) ⌝ }
+    ensures { λ r. ⌜ Chose (surveyIn (now (xs .entry)) (now (ys .entry)) (now (zs .entry)) n) (location px py) r ⌝ }
+{
+    let b = buffer::nearest(xs, ys, zs, n, px, py);
+    if choice::coincident(b) {
+        let first = Selection {
+            count: 1,
+            radius: 0,
+        };
+        return choice::filled(b, first);
+    }
+    let r0 = initial_radius(xs, ys, n);
+    choice::apart(b, r0)
 }

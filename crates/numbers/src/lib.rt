@@ -1,8 +1,9 @@
-// Numbers in files: words of bytes, high byte first, two's complement, and the sum of bytes.
+// Whole numbers: words of bytes, high byte first, two's complement, the sum of bytes, and differences.
 ghost use mathlib.Core.Path.{_≡_};
 ghost use Prim.Native.Nat.{_+_, _<_, _≤_};
 ghost use lib.ListN.{length};
 ghost use Rattle.model.specs.Bytes.{wordAt, longAt, complement, signed, total as totalOf};
+ghost use Rattle.model.specs.Distance.{gap as gapOf};
 
 // A byte as a wider number.
 fn wide(b: u8) -> usize
@@ -62,4 +63,14 @@ pub fn complement_of(z: i8) -> u8
     } else {
         z as u8
     }
+}
+
+// The difference of two numbers, whichever is the greater.
+pub fn gap(m: u64, n: u64) -> u64
+    ensures { λ r. ⌜ r ≡ gapOf m n ⌝ }
+{
+    if m < n {
+        return n - m;
+    }
+    m - n
 }

@@ -1,6 +1,4 @@
 -- `relative_error::nearest_half` meets its contract.
-use mathlib.Core.Path.{ap}
-use Prim.Native.Nat.{ℕ, _+_, _/_}
 use native.Mathlib.Omega.{arith}
 use borrow.Author.Needs.{needs}
 use Rattle.model.specs.Answer.{nearestHalf}
@@ -15,7 +13,7 @@ add-result c = search needs
 
 returns : tie.Need-returns
 unfolding nearestHalf
-returns c = (ap (λ (k : ℕ). (k + 1) / 2) (c .whole-part .ensures .0), omega (arith, c .whole-part .ensures .1))
+returns c = (omega (arith, c .whole-part .ensures .0), omega (arith, c .whole-part .ensures .1))
 
 pub nearest-half-spec : {M : Type 1} → statement M
 nearest-half-spec = tie.close (tie.spec whole-part-requires add-result returns)

@@ -1,0 +1,49 @@
+-- Values: the least of the first i, one more taken in, and how far two values lie apart.
+use mathlib.Core.Path.{_≡_, refl, sym, ap, ap₂, _∙_}
+use Prim.Native.Nat.{ℕ, suc, _+_, _-_, _≤_, _<_}
+use native.Mathlib.Nat.{not-suc-le-zero}
+use native.Mathlib.Numerals.{add-one}
+use native.Mathlib.Omega.{arith}
+use mathlib.Core.List.{List, [], _∷_, _++_, map, map-append, foldl-append}
+use lib.IntN.{ℤ, pos, negsuc, natAbs, _-ℤ_}
+use lib.ListN.{length, take, getD, length-map, length-take}
+use lib.Seq.{take-suc}
+use Rattle.model.specs.Point.{Point}
+use Rattle.model.specs.Distance.{gap}
+use Rattle.model.specs.Mean.{valuesBy, lesser}
+use Rattle.laws.proofs.DiffLaws.{diff, diff-of, diff-same, diff-minus, abs-diff}
+use Rattle.neighbours.specs.declared.Neighbour.{Neighbour}
+use Rattle.weights.specs.Seen.{noNeighbour, pointOf}
+
+pub length-under : {X Y : Type 0} (f : X → Y) (l : List X) (n : ℕ) → length (map f l) ≡ n → length l ≡ n
+length-under f l n h = sym (length-map l f) ∙ h
+
+pub least-first : (l : List Neighbour) → 0 < length l → getD l 0 noNeighbour .z ≡ valuesBy lesser (map pointOf (take 1 l))
+unfolding valuesBy
+least-first [] h = absurd (not-suc-le-zero h)
+least-first (a ∷ l) h = refl
+
+more : (op : ℤ → ℤ → ℤ) (l : List Point) (b : Point) → 0 < length l → valuesBy op (l ++ (b ∷ [])) ≡ op (valuesBy op l) (b .z)
+unfolding valuesBy
+more op [] b h = absurd (not-suc-le-zero h)
+more op (a ∷ l) b h = rw (map-append (λ (c : Point). c .z) l (b ∷ [])) (foldl-append op (a .z) (map (λ (c : Point). c .z) l) (b .z ∷ []))
+
+pub least-more : (l : List Neighbour) (i : ℕ) → 1 ≤ i → i < length l
+    → valuesBy lesser (map pointOf (take (i + 1) l)) ≡ lesser (valuesBy lesser (map pointOf (take i l))) (getD l i noNeighbour .z)
+least-more l i h g =
+    let n : 0 < length (map pointOf (take i l)) = simp (length-map, length-take) (omega arith) in
+    rw (add-one i, take-suc l i noNeighbour g, map-append pointOf (take i l) (getD l i noNeighbour ∷ [])) (more lesser (map pointOf (take i l)) (pointOf (getD l i noNeighbour)) n)
+
+-- a value below zero, and one that is not, with 128 added
+pub raised-below : (n : ℕ) → n ≤ 127 → negsuc n ≡ pos (127 - n) -ℤ pos 128
+unfolding diff
+raised-below n h = diff-of (negsuc n) ∙ diff-same 0 (suc n) (127 - n) 128 (omega arith)
+
+pub raised-from : (n : ℕ) → pos n ≡ pos (128 + n) -ℤ pos 128
+unfolding diff
+raised-from n = diff-of (pos n) ∙ diff-same n 0 (128 + n) 128 (omega arith)
+
+pub apart-raised : (z l : ℤ) (a b : ℕ) → z ≡ pos a -ℤ pos 128 → l ≡ pos b -ℤ pos 128 → natAbs (z -ℤ l) ≡ gap a b
+unfolding diff
+apart-raised z l a b e f =
+    ap natAbs (ap₂ _-ℤ_ e f ∙ diff-minus a 128 b 128) ∙ abs-diff (a + 128) (128 + b) ∙ omega arith

@@ -1,0 +1,58 @@
+// The mean of the neighbours' values by their weights, and the answer in 256ths of a step: document 01, "Pull and mean".
+mod value;
+mod weighted;
+
+ghost use mathlib.Core.Path.{_≡_};
+ghost use Prim.Native.Nat.{_≤_};
+ghost use lib.IntN.{pos, _+ℤ_, _*ℤ_};
+ghost use lib.Signed.{_≤ℤ_};
+ghost use Rattle.model.specs.Point.{State, location};
+ghost use Rattle.model.specs.Computed.{meanF};
+ghost use Rattle.model.specs.Answer.{answer};
+ghost use Rattle.weights.specs.Seen.{seen, Bounded};
+ghost use Rattle.mean.specs.Asked.{Asked};
+use neighbours::Chosen;
+pub use value::least_value;
+pub use value::lessened;
+pub use weighted::scaled_mean;
+pub use weighted::sums_of;
+
+// Two running sums, of weights and of weighted numbers.
+pub struct Sums {
+    pub weight: f64,
+    pub value: f64,
+}
+
+// 512 times the mean of the values, each less the least one.
+pub fn mean_of(c: Chosen, least: i8, px: u16, py: u16) -> f64
+    requires { ⌜ Bounded c ⌝ }
+    ensures { λ r. ⌜ r ≡ meanF (seen px py c) least ⌝ }
+{
+    let w = weights::weights(c, px, py);
+    let x = lessened(c, least);
+    let n = c.count;
+    scaled_mean(sums_of(&w, &x, n))
+}
+
+// A value with k 256ths above it, in 256ths of a step.
+fn above(value: i8, k: u64) -> i16
+    requires { ⌜ (k ≤ 2097152) × (((pos 256 *ℤ value) +ℤ pos k) ≤ℤ pos 32512) ⌝ }
+    ensures { λ r. ⌜ r ≡ (pos 256 *ℤ value) +ℤ pos k ⌝ }
+{
+    (256 * (value as i32) + (k as i32)) as i16
+}
+
+// The answer, in 256ths of a step: the value of a point at the location, or the mean. `answer-right` in error_bound says how near it is to the exact mean.
+pub fn answer_of(c: Chosen, px: u16, py: u16) -> i16
+    requires { ⌜ ((s : State) × Asked s px py c) ⌝ }
+    ensures { λ r. ⌜ ((s : State) → Asked s px py c → r ≡ answer s (location px py)) ⌝ }
+{
+    let items = c.items;
+    let first = items[0];
+    if first.distance == 0 {
+        return above(first.z, 0);
+    }
+    let least = least_value(c);
+    let k = relative_error::nearest_half(mean_of(c, least, px, py));
+    above(least, k)
+}

@@ -1,0 +1,7 @@
+-- Facts that the proofs of this crate share.
+pub mod Mapped
+pub mod Insertions
+pub mod Passed
+pub mod FirstEleven
+pub mod Filling
+pub mod Spans

@@ -1,0 +1,14 @@
+-- `filled` meets its contract: the neighbours are the first of the nearest, with their distances.
+use borrow.Author.Needs.{needs}
+use Rattle.neighbours.proofs.Filling.{gives-selected}
+use Rattle.neighbours.proofs.choice.filled.Statement.{statement}
+use Rattle.neighbours.proofs.choice.filled.Tie as tie
+
+neighbours-requires : tie.Need-neighbours-requires
+neighbours-requires c κs = search needs
+
+returns : tie.Need-returns
+returns c = λ s p k h g. gives-selected s p _ k _ _ h g (c .before .before .pre) (c .neighbours .ensures)
+
+pub filled-spec : {M : Type 1} → statement M
+filled-spec = tie.close (tie.spec neighbours-requires returns)

@@ -1,0 +1,144 @@
+// Who is chosen of the nearest eleven, and the radius R: document 01, "Who is chosen".
+ghost use mathlib.Core.Path.{_≡_};
+ghost use mathlib.Core.List.{map};
+ghost use Prim.Native.Nat.{_≤_};
+ghost use lib.ListN.{take};
+ghost use Rattle.model.specs.Lists.{count as countOf};
+ghost use Rattle.model.specs.Point.{State, Location};
+ghost use Rattle.model.specs.Radius.{initialRadius};
+ghost use Rattle.model.specs.Choice.{Choice, coincident as coincidentAt, choiceApart};
+ghost use Rattle.neighbours.specs.Nearest.{listOf, withinOf, HoldsNearest};
+ghost use Rattle.neighbours.specs.Selects.{Selects, withDistance, Gives};
+use crate::Candidate;
+use crate::Candidates;
+use crate::Chosen;
+use crate::Neighbour;
+use crate::Selection;
+
+// Whether a point is at the location: the nearest, if any is.
+pub(crate) fn coincident(b: Candidates) -> bool
+    ensures { λ r. ⌜ ((s : State) (p : Location) → HoldsNearest s p b → r ≡ coincidentAt s p) ⌝ }
+{
+    if b.count == 0 {
+        return false;
+    }
+    let items = b.items;
+    let first = items[0];
+    first.squared == 0
+}
+
+// How many have D ≤ R0. It is asked without a root: 65536 d² ≤ R0² + 2 R0.
+fn count_within(b: Candidates, r0: u32) -> usize
+    requires { ⌜ b .count ≤ 11 ⌝ }
+    ensures { λ r. ⌜ r ≡ countOf (withinOf r0) (listOf b) ⌝ }
+{
+    let n = b.count;
+    let items = b.items;
+    let r = r0 as u64;
+    let bound = r * r + 2 * r;
+    let mut k: usize = 0;
+    let mut i: usize = 0;
+    while i < n {
+        let e = items[i];
+        let d = 65536 * (e.squared as u64);
+        if d <= bound {
+            k += 1;
+        }
+        i += 1;
+    }
+    k
+}
+
+// Rules 3 to 5. R is D of the first point left out, or R0, or 0 where four points or fewer are present.
+fn by_count(b: Candidates, r0: u32) -> Selection
+    requires { ⌜ b .count ≤ 11 ⌝ }
+    ensures { λ r. ⌜ r .count ≤ 10 ⌝ }
+    ensures { λ r. ⌜ ((s : State) (p : Location) → HoldsNearest s p b → r0 ≡ initialRadius s → Selects s p (choiceApart s p) r) ⌝ }
+{
+    let n = b.count;
+    let items = b.items;
+    let k = count_within(b, r0);
+    if k <= 4 {
+        if n <= 4 {
+            return Selection {
+                count: n,
+                radius: 0,
+            };
+        }
+        let fifth = items[4];
+        return Selection {
+            count: 4,
+            radius: root::distance_of(fifth.squared),
+        };
+    }
+    if k <= 10 {
+        return Selection {
+            count: k,
+            radius: r0,
+        };
+    }
+    let eleventh = items[10];
+    Selection {
+        count: 10,
+        radius: root::distance_of(eleventh.squared),
+    }
+}
+
+fn with_distance(e: Candidate) -> Neighbour
+    ensures { λ r. ⌜ r ≡ withDistance e ⌝ }
+{
+    Neighbour {
+        x: e.x,
+        y: e.y,
+        z: e.z,
+        squared: e.squared,
+        distance: root::distance_of(e.squared),
+    }
+}
+
+// The first k of the nearest, with their distances.
+fn neighbours(items: [Candidate; 11], k: usize) -> [Neighbour; 10]
+    requires { ⌜ k ≤ 10 ⌝ }
+    ensures { λ r. ⌜ take k r ≡ map withDistance (take k items) ⌝ }
+{
+    let e = Neighbour {
+        x: 0,
+        y: 0,
+        z: 0,
+        squared: 0,
+        distance: 0,
+    };
+    let mut a = [e; 10];
+    let mut i: usize = 0;
+    while i < k {
+        let c = items[i];
+        a[i] = with_distance(c);
+        i += 1;
+    }
+    a
+}
+
+// The chosen ones of the nearest.
+pub(crate) fn filled(b: Candidates, t: Selection) -> Chosen
+    requires { ⌜ t .count ≤ 10 ⌝ }
+    ensures { λ r. ⌜ ((s : State) (p : Location) (c : Choice) → HoldsNearest s p b → Selects s p c t → Gives s p c r) ⌝ }
+{
+    let n = b.count;
+    let items = b.items;
+    let k = t.count;
+    Chosen {
+        items: neighbours(items, k),
+        count: k,
+        radius: t.radius,
+        few: n <= 4,
+    }
+}
+
+// Rules 2 to 5: the choice where no point is at the location.
+pub(crate) fn apart(b: Candidates, r0: u32) -> Chosen
+    requires { ⌜ b .count ≤ 11 ⌝ }
+    ensures { λ r. ⌜ ((s : State) (p : Location) → HoldsNearest s p b → r0 ≡ initialRadius s → Gives s p (choiceApart s p) r) ⌝ }
+{
+    let t = by_count(b, r0);
+    filled(b, t)
+}
