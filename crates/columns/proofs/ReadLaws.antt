@@ -1,16 +1,21 @@
 -- Points as arrays are read: as many as the count says, at most 256, in the domain whatever the arrays hold, and in range where the values are.
 use mathlib.Core.Path.{_≡_, _∙_}
-use Prim.Native.Nat.{ℕ, _%_, _<_, min}
+use Prim.Native.Nat.{ℕ, _+_, _%_, _<_, min}
+use native.Mathlib.Nat.{eq-or-lt-of-le}
 use native.Mathlib.Omega.{arith}
 use mathlib.Core.Bool.{true, and-eq-true-iff}
 use mathlib.Core.List.{List}
+use mathlib.Core.Logic.{⊎-elim}
 use lib.Dec.{ltb}
 use lib.IntN.{ℤ, pos}
 use lib.ListN.{length, getD, length-map}
 use borrow.Author.Tests.{lt-ltb}
+use mir.Syntax.{w8}
+use mir.Val.{SFits}
 use Rattle.model.specs.Lists.{All}
 use Rattle.model.specs.Point.{Point, point, inDomain, inRange}
 use Rattle.model.specs.Invariant.{Sound}
+use Rattle.laws.proofs.ValueLaws.{byte-range}
 use Rattle.laws.proofs.ListLaws.{all-map, all-tabulate}
 use Rattle.columns.specs.Columns.{held, wrapped, pointsIn}
 use Rattle.columns.proofs.HeldLaws.{length-held}
@@ -24,7 +29,22 @@ wrapped-location a =
     and-eq-true-iff (ltb (a .x % 4096) 4096) (ltb (a .y % 4096) 4096) .1
     (lt-ltb (a .x % 4096) 4096 (omega arith), lt-ltb (a .y % 4096) 4096 (omega arith))
 
-pub points-sound : (xs ys : List ℕ) (zs : List ℤ) (n : ℕ) → ((i : ℕ) → i < min n 256 → inRange (getD zs i (pos 0)) ≡ true) → All Sound (pointsIn xs ys zs n)
+-- the first n values are in range
+abbrev pub InRange : List ℤ → ℕ → Type 0
+InRange zs n = (i : ℕ) → i < n → inRange (getD zs i (pos 0)) ≡ true
+
+pub in-range-none : (zs : List ℤ) → InRange zs 0
+in-range-none zs i l = absurd (omega arith)
+
+-- a value that was read fits eight bits
+pub in-range-more : (zs : List ℤ) (n : ℕ) → SFits w8 (getD zs n (pos 0)) → InRange zs n → InRange zs (n + 1)
+in-range-more zs n f h i l =
+    ⊎-elim
+    (λ (e : i ≡ n). rw e (byte-range (getD zs n (pos 0)) (f .sfits)))
+    (λ (k : i < n). h i k)
+    (eq-or-lt-of-le {n = i} {m = n} (omega arith))
+
+pub points-sound : (xs ys : List ℕ) (zs : List ℤ) (n : ℕ) → InRange zs (min n 256) → All Sound (pointsIn xs ys zs n)
 unfolding pointsIn held
 points-sound xs ys zs n h =
     all-map Sound wrapped (held xs ys zs (min n 256))

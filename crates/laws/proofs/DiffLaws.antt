@@ -119,10 +119,3 @@ diff-le a b c d h =
     let p = diff-parts a b in
     let q = diff-parts c d in
     le-of-parts (diff a b) (diff c d) (omega arith)
-
-pub le-diff : (a b c d : ℕ) → diff a b ≤ℤ diff c d → a + d ≤ c + b
-le-diff a b c d h =
-    let p = diff-parts a b in
-    let q = diff-parts c d in
-    let l = parts-of-le (diff a b) (diff c d) h in
-    omega arith

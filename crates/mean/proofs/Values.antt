@@ -1,14 +1,16 @@
 -- Values: the least of the first i, one more taken in, and how far two values lie apart.
 use mathlib.Core.Path.{_≡_, refl, sym, ap, ap₂, _∙_}
-use Prim.Native.Nat.{ℕ, suc, _+_, _-_, _≤_, _<_}
+use Prim.Native.Nat.{ℕ, suc, _+_, _-_, _%_, _≤_, _<_}
 use native.Mathlib.Nat.{not-suc-le-zero}
 use native.Mathlib.Numerals.{add-one}
 use native.Mathlib.Omega.{arith}
 use mathlib.Core.List.{List, [], _∷_, _++_, map, map-append, foldl-append}
+use lib.Signed.{mag}
 use lib.IntN.{ℤ, pos, negsuc, natAbs, _-ℤ_}
 use lib.ListN.{length, take, getD, length-map, length-take}
 use lib.Seq.{take-suc}
 use Rattle.model.specs.Point.{Point}
+use Rattle.model.specs.Bytes.{complement}
 use Rattle.model.specs.Distance.{gap}
 use Rattle.model.specs.Mean.{valuesBy, lesser}
 use Rattle.laws.proofs.DiffLaws.{diff, diff-of, diff-same, diff-minus, abs-diff}
@@ -34,14 +36,11 @@ least-more l i h g =
     let n : 0 < length (map pointOf (take i l)) = simp (length-map, length-take) (omega arith) in
     rw (add-one i, take-suc l i noNeighbour g, map-append pointOf (take i l) (getD l i noNeighbour ∷ [])) (more lesser (map pointOf (take i l)) (pointOf (getD l i noNeighbour)) n)
 
--- a value below zero, and one that is not, with 128 added
-pub raised-below : (n : ℕ) → n ≤ 127 → negsuc n ≡ pos (127 - n) -ℤ pos 128
+-- a value with 128 added, by its two's complement
+pub raised-is : (z : ℤ) → mag z < 128 → z ≡ pos ((complement 128 z + 128) % 256) -ℤ pos 128
 unfolding diff
-raised-below n h = diff-of (negsuc n) ∙ diff-same 0 (suc n) (127 - n) 128 (omega arith)
-
-pub raised-from : (n : ℕ) → pos n ≡ pos (128 + n) -ℤ pos 128
-unfolding diff
-raised-from n = diff-of (pos n) ∙ diff-same n 0 (128 + n) 128 (omega arith)
+raised-is (pos n) h = diff-of (pos n) ∙ diff-same n 0 ((n + 128) % 256) 128 (omega arith)
+raised-is (negsuc n) h = diff-of (negsuc n) ∙ diff-same 0 (suc n) ((256 - suc n + 128) % 256) 128 (omega arith)
 
 pub apart-raised : (z l : ℤ) (a b : ℕ) → z ≡ pos a -ℤ pos 128 → l ≡ pos b -ℤ pos 128 → natAbs (z -ℤ l) ≡ gap a b
 unfolding diff

@@ -3,28 +3,36 @@ mod value;
 mod weighted;
 
 ghost use mathlib.Core.Path.{_≡_};
-ghost use Prim.Native.Nat.{_≤_};
+ghost use Prim.Native.Nat.{_<_, _≤_};
 ghost use lib.IntN.{pos, _+ℤ_, _*ℤ_};
 ghost use lib.Signed.{_≤ℤ_};
 ghost use Rattle.model.specs.Point.{State, location};
 ghost use Rattle.model.specs.Computed.{meanF};
 ghost use Rattle.model.specs.Answer.{answer};
 ghost use Rattle.weights.specs.Seen.{seen, Bounded};
+ghost use Rattle.columns.specs.Columns.{surveyIn};
 ghost use Rattle.mean.specs.Asked.{Asked};
+ghost use Rattle.mean.specs.Answers.{Answers};
 use neighbours::Chosen;
-pub use value::least_value;
-pub use value::lessened;
-pub use weighted::scaled_mean;
-pub use weighted::sums_of;
+use value::least_value;
+use value::lessened;
+use weighted::scaled_mean;
+use weighted::sums_of;
 
 // Two running sums, of weights and of weighted numbers.
-pub struct Sums {
-    pub weight: f64,
-    pub value: f64,
+struct Sums {
+    weight: f64,
+    value: f64,
+}
+
+// The answer of a lookup, in 256ths of a step, and the neighbours that it goes by.
+pub struct Answered {
+    pub answer: i16,
+    pub chosen: Chosen,
 }
 
 // 512 times the mean of the values, each less the least one.
-pub fn mean_of(c: Chosen, least: i8, px: u16, py: u16) -> f64
+fn mean_of(c: Chosen, least: i8, px: u16, py: u16) -> f64
     requires { ⌜ Bounded c ⌝ }
     ensures { λ r. ⌜ r ≡ meanF (seen px py c) least ⌝ }
 {
@@ -42,8 +50,8 @@ fn above(value: i8, k: u64) -> i16
     (256 * (value as i32) + (k as i32)) as i16
 }
 
-// The answer, in 256ths of a step: the value of a point at the location, or the mean. `answer-right` in error_bound says how near it is to the exact mean.
-pub fn answer_of(c: Chosen, px: u16, py: u16) -> i16
+// The answer: the value of a point at the location, or the mean.
+fn answer_of(c: Chosen, px: u16, py: u16) -> i16
     requires { ⌜ ((s : State) × Asked s px py c) ⌝ }
     ensures { λ r. ⌜ ((s : State) → Asked s px py c → r ≡ answer s (location px py)) ⌝ }
 {
@@ -55,4 +63,24 @@ pub fn answer_of(c: Chosen, px: u16, py: u16) -> i16
     let least = least_value(c);
     let k = relative_error::nearest_half(mean_of(c, least, px, py));
     above(least, k)
+}
+
+// The answer at (px, py) of the points that the arrays hold. `answer-right` in error_bound says how near it is to the exact mean.
+pub fn answer_at<'a>(
+    xs: &'a [u16; 256],
+    ys: &'a [u16; 256],
+    zs: &'a [i8; 256],
+    n: usize,
+    px: u16,
+    py: u16,
+) -> Answered
+    requires { ⌜ (px < 4096) × (py < 4096) × (0 < n) ⌝ }
+    ensures { λ r. ⌜ Answers (surveyIn (now (xs .entry)) (now (ys .entry)) (now (zs .entry)) n) (location px py) r ⌝ }
+{
+    let c = neighbours::choose(xs, ys, zs, n, px, py);
+    let a = answer_of(c, px, py);
+    Answered {
+        answer: a,
+        chosen: c,
+    }
 }

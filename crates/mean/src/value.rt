@@ -20,7 +20,7 @@ fn lesser(a: i8, b: i8) -> i8
 }
 
 // The least of the values held, 0 of none.
-pub fn least_value(c: Chosen) -> i8
+pub(crate) fn least_value(c: Chosen) -> i8
     requires { ⌜ c .count ≤ 10 ⌝ }
     ensures { λ r. ⌜ r ≡ valuesBy lesserOf (pointsHeld c) ⌝ }
 {
@@ -44,10 +44,7 @@ pub fn least_value(c: Chosen) -> i8
 fn raised(z: i8) -> u64
     ensures { λ r. ⌜ (z ≡ pos r -ℤ pos 128) × (r ≤ 255) ⌝ }
 {
-    if z < 0 {
-        return 127 - ((-1 - z) as u64);
-    }
-    128 + z as u64
+    (numbers::complement_of(z) as u64 + 128) % 256
 }
 
 // How far a value lies from the least one, as a float.
@@ -58,7 +55,7 @@ fn lessened_value(least: i8, z: i8) -> f64
 }
 
 // The values held, each less the least one.
-pub fn lessened(c: Chosen, least: i8) -> [f64; 10]
+pub(crate) fn lessened(c: Chosen, least: i8) -> [f64; 10]
     requires { ⌜ c .count ≤ 10 ⌝ }
     ensures { λ r. ⌜ ((i : ℕ) → i < c .count → getD r i nan ≡ lessenedF least (itemAt c i .z)) ⌝ }
 {

@@ -18,7 +18,7 @@ fn with_item(s: Sums, w: f64, x: f64) -> Sums
 }
 
 // The sums of the first n weights, and of each times its number.
-pub fn sums_of(ws: &[f64; 10], xs: &[f64; 10], n: usize) -> Sums
+pub(crate) fn sums_of(ws: &[f64; 10], xs: &[f64; 10], n: usize) -> Sums
     requires { ⌜ n ≤ 10 ⌝ }
     ensures { λ r. ⌜ (r .weight ≡ sumF (λ i. getD (now (ws .entry)) i nan) n)
         × (r .value ≡ sumF (λ i. mul binary64 (getD (now (ws .entry)) i nan) (getD (now (xs .entry)) i nan)) n) ⌝ }
@@ -36,7 +36,7 @@ pub fn sums_of(ws: &[f64; 10], xs: &[f64; 10], n: usize) -> Sums
 }
 
 // 512 times the mean.
-pub fn scaled_mean(sums: Sums) -> f64
+pub(crate) fn scaled_mean(sums: Sums) -> f64
     ensures { λ r. ⌜ r ≡ mul binary64 (float 512) (div binary64 (sums .value) (sums .weight)) ⌝ }
 {
     to_float(512) * (sums.value / sums.weight)

@@ -6,7 +6,9 @@ ghost use lib.ListN.{take, drop};
 ghost use Rattle.model.specs.Point.{State, location, point};
 ghost use Rattle.model.specs.Distance.{gap as gapOf};
 ghost use Rattle.model.specs.Order.{insert};
-ghost use Rattle.columns.specs.Columns.{wrapped, surveyIn};
+ghost use Rattle.model.specs.Lists.{All};
+ghost use Rattle.model.specs.Invariant.{Sound};
+ghost use Rattle.columns.specs.Columns.{wrapped, pointsIn, surveyIn};
 ghost use Rattle.neighbours.specs.Nearest.{precedesBy, candidateAt, listOf, Place, HoldsNearest};
 use crate::Candidate;
 use crate::Candidates;
@@ -127,7 +129,7 @@ fn none() -> Candidates
     }
 }
 
-// The nearest eleven of the points, or all where they are fewer.
+// The nearest eleven of the points, or all where they are fewer. Each point as it is read is in the domain and in range, which eight bits cannot leave.
 pub(crate) fn nearest<'a>(
     xs: &'a [u16; 256],
     ys: &'a [u16; 256],
@@ -138,6 +140,7 @@ pub(crate) fn nearest<'a>(
 ) -> Candidates
     requires { ⌜ (px < 4096) × (py < 4096) ⌝ }
     ensures { λ r. ⌜ HoldsNearest (surveyIn (now (xs .entry)) (now (ys .entry)) (now (zs .entry)) n) (location px py) r ⌝ }
+    ensures { λ _. ⌜ All Sound (pointsIn (now (xs .entry)) (now (ys .entry)) (now (zs .entry)) n) ⌝ }
 {
     let m = columns::clamped(n);
     let mut b = none();

@@ -8,8 +8,10 @@ ghost use mathlib.Core.List.{List};
 ghost use Prim.Native.Nat.{_<_};
 ghost use lib.IntN.{ℤ};
 ghost use Rattle.model.specs.Point.{location};
+ghost use Rattle.model.specs.Lists.{All};
 ghost use Rattle.model.specs.Radius.{initialRadius};
-ghost use Rattle.columns.specs.Columns.{surveyIn};
+ghost use Rattle.model.specs.Invariant.{Sound};
+ghost use Rattle.columns.specs.Columns.{pointsIn, surveyIn};
 ghost use Rattle.neighbours.specs.Chose.{Chose};
 
 // A chosen point with its squared distance d² and its distance D.
@@ -62,7 +64,7 @@ pub fn initial_radius<'a>(xs: &'a [u16; 256], ys: &'a [u16; 256], n: usize) -> u
     root::radius_of(wide * high, m as u64)
 }
 
-// The neighbours of (px, py). Rules 2 to 5 stand alone in `choice::apart`, for a lookup where no point is at the location.
+// The neighbours of (px, py). Each point of the arrays as it is read is in the domain and in range. Rules 2 to 5 stand alone in `choice::apart`, for a lookup where no point is at the location.
 pub fn choose<'a>(
     xs: &'a [u16; 256],
     ys: &'a [u16; 256],
@@ -73,6 +75,7 @@ pub fn choose<'a>(
 ) -> Chosen
     requires { ⌜ (px < 4096) × (py < 4096) ⌝ }
     ensures { λ r. ⌜ Chose (surveyIn (now (xs .entry)) (now (ys .entry)) (now (zs .entry)) n) (location px py) r ⌝ }
+    ensures { λ _. ⌜ All Sound (pointsIn (now (xs .entry)) (now (ys .entry)) (now (zs .entry)) n) ⌝ }
 {
     let b = buffer::nearest(xs, ys, zs, n, px, py);
     if choice::coincident(b) {

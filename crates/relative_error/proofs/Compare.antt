@@ -2,9 +2,9 @@
 use mathlib.Core.Path.{_≡_, refl, sym, ap, _∙_}
 use mathlib.Core.Bool.{Bool, true, false, _&&_, _||_}
 use Prim.Native.Nat.{ℕ, _*_, _≤_, _<_}
-use native.Mathlib.Nat.{le-of-lt, le-of-eq, not-le-of-lt, lt-of-not-le, mul-one}
-use lib.Dec.{T, leb, ltb, eqb, leb→le, le→leb, ltb→lt, lt→ltb, eqb→eq, lit<}
-use lib.Ieee.{Float, nan, inf, fin, lt, le}
+use native.Mathlib.Nat.{le-of-lt, le-of-eq, mul-one}
+use lib.Dec.{T, leb, ltb, eqb, leb→le, le→leb, ltb→lt, eqb→eq, lit<}
+use lib.Ieee.{Float, nan, inf, fin, le}
 use lib.Ieee.Exact.{HasValue}
 use lib.Ieee.Order.{transfer, le-of-values}
 use lib.Ieee.Positive.{num, den, den-pos, value→cross}
@@ -29,21 +29,11 @@ either a b t = go (ltb a b) (eqb a b) (ltb→lt a b) (eqb→eq a b) t
     go false false h k t = absurd t
 
 -- by the floats' own fractions
-pub own : (x : Float) → T (plain x) → HasValue x false (num x) (den x)
+own : (x : Float) → T (plain x) → HasValue x false (num x) (den x)
 own nan p = absurd p
 own (inf s) p = absurd p
 own (fin true m e) p = absurd p
 own (fin false m e) p = (refl, refl)
-
-lt-own : (x y : Float) → T (plain x) → T (plain y) → lt x y ≡ ltb (num x * den y) (num y * den x)
-unfolding lt
-lt-own nan y p q = absurd p
-lt-own (inf s) y p q = absurd p
-lt-own (fin true m e) y p q = absurd p
-lt-own (fin false m e) nan p q = absurd q
-lt-own (fin false m e) (inf t) p q = absurd q
-lt-own (fin false m e) (fin true n d) p q = absurd q
-lt-own (fin false m e) (fin false n d) p q = refl
 
 le-own : (x y : Float) → T (plain x) → T (plain y) → T (le x y) → num x * den y ≤ num y * den x
 unfolding le
@@ -66,36 +56,9 @@ module _ (x y : Float) (a c b c' : ℕ) (C : 0 < c) (C' : 0 < c') (v : HasValue 
   into : num x * den y ≤ num y * den x → a * c' ≤ b * c
   into h = transfer a b c c' (num x) (num y) (den x) (den y) (den-pos x) (den-pos y) (sym (value→cross x a c v)) (sym (value→cross y b c' w)) h
 
-  outof : b * c ≤ a * c' → num y * den x ≤ num x * den y
-  outof h = transfer (num y) (num x) (den y) (den x) b a c' c C' C (value→cross y b c' w) (value→cross x a c v) h
-
-  pub le-at : le x y ≡ leb (a * c') (b * c)
+  le-at : le x y ≡ leb (a * c') (b * c)
   le-at = same-test (le x y) (leb (a * c') (b * c)) (λ t. le→leb (a * c') (b * c) (into (le-own x y p q t))) (λ t. le-of-values x y a c b c' C C' v w (leb→le (a * c') (b * c) t))
 
-  back : num y * den x ≤ num x * den y → b * c ≤ a * c'
-  back h = transfer b a c' c (num y) (num x) (den y) (den x) (den-pos y) (den-pos x) (sym (value→cross y b c' w)) (sym (value→cross x a c v)) h
-
-  pub lt-at : lt x y ≡ ltb (a * c') (b * c)
-  lt-at =
-      lt-own x y p q
-      ∙ same-test (ltb (num x * den y) (num y * den x)) (ltb (a * c') (b * c))
-      (λ t. lt→ltb (a * c') (b * c) (lt-of-not-le (λ (h : b * c ≤ a * c'). not-le-of-lt (ltb→lt (num x * den y) (num y * den x) t) (outof h))))
-      (λ t. lt→ltb (num x * den y) (num y * den x) (lt-of-not-le (λ (h : num y * den x ≤ num x * den y). not-le-of-lt (ltb→lt (a * c') (b * c) t) (back h))))
-
--- whole numbers up to 2 ^ 53, and a whole number with any float that is not negative
-module _ (n : ℕ) (N : n ≤ 9007199254740992) where
-  pub int-lt : (m : ℕ) → m ≤ 9007199254740992 → lt (float n) (float m) ≡ ltb n m
-  int-lt m M =
-      lt-at (float n) (float m) n 1 m 1 (lit< tt) (lit< tt) (int-value n N) (int-value m M)
-      ∙ ap (λ (z : ℕ). ltb z (m * 1)) (mul-one n) ∙ ap (λ (z : ℕ). ltb n z) (mul-one m)
-
-  pub int-le : (m : ℕ) → m ≤ 9007199254740992 → le (float n) (float m) ≡ leb n m
-  int-le m M =
-      le-at (float n) (float m) n 1 m 1 (lit< tt) (lit< tt) (int-value n N) (int-value m M)
-      ∙ ap (λ (z : ℕ). leb z (m * 1)) (mul-one n) ∙ ap (λ (z : ℕ). leb n z) (mul-one m)
-
-  pub int-le-float : (x : Float) → T (plain x) → le (float n) x ≡ leb (n * den x) (num x)
-  int-le-float x p = le-at (float n) x n 1 (num x) (den x) (lit< tt) (den-pos x) (int-value n N) (own x p) ∙ ap (λ (z : ℕ). leb (n * den x) z) (mul-one (num x))
-
-  pub float-lt-int : (x : Float) → T (plain x) → lt x (float n) ≡ ltb (num x) (n * den x)
-  float-lt-int x p = lt-at x (float n) (num x) (den x) n 1 (den-pos x) (lit< tt) (own x p) (int-value n N) ∙ ap (λ (z : ℕ). ltb z (n * den x)) (mul-one (num x))
+-- a whole number up to 2 ^ 53 is at most a float that is not negative
+pub int-le-float : (n : ℕ) → n ≤ 9007199254740992 → (x : Float) → T (plain x) → le (float n) x ≡ leb (n * den x) (num x)
+int-le-float n N x p = le-at (float n) x n 1 (num x) (den x) (lit< tt) (den-pos x) (int-value n N) (own x p) ∙ ap (λ (z : ℕ). leb (n * den x) z) (mul-one (num x))

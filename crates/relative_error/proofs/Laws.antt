@@ -1,6 +1,5 @@
 -- The laws of `Close`: one for each operation on floats that are not negative. k counts roundings, and d and u bound the exact fraction from below and above.
 -- An operation asks for `small k d u` of what k, d and u come to before its own rounding: `tt` proves that where they are numerals.
---
 use mathlib.Core.Path.{_≡_, refl, sym, ap, _∙_, subst}
 use mathlib.Core.Bool.{Bool, true, false, _&&_, cond}
 use Prim.Native.Nat.{ℕ, _+_, _*_, _^_, _≤_, _<_, max}
@@ -16,7 +15,7 @@ use lib.Ieee.Positive.{num, den, den-pos, first-pos, value→cross}
 use Rattle.model.specs.Fraction.{Fraction, whole, plus, times, over}
 use Rattle.model.specs.Computed.{float}
 use Rattle.relative_error.specs.Close.{Range, hi, lo, Under, plain, Close}
-use Rattle.relative_error.proofs.Ratio.{chain, more, left, right, product, turned, total, above-zero}
+use Rattle.relative_error.proofs.Ratio.{chain, more, product, turned, total, above-zero}
 use Rattle.relative_error.proofs.Rounding.{rounded, plain-of-value}
 use Rattle.relative_error.proofs.Ranges.{wider, of-whole, of-times, of-over, of-plus, of-near}
 
@@ -37,19 +36,6 @@ weaken {k} {d} {u} {k'} {d'} {u'} {x} {f} K D U c = record {
   above = more k k' (f .top) (f .bot) (num x) (den x) K (c .above);
   below = more k k' (num x) (den x) (f .top) (f .bot) K (c .below);
   range = wider D U (c .range);
-}
-
--- a range found in another way
-pub ranged : {k d u d' u' : ℕ} {x : Float} {f : Fraction} → Range d' u' f → Close k d u x f → Close k d' u' x f
-ranged r c = record { finite = c .finite; proper = c .proper; above = c .above; below = c .below; range = r }
-
-pub rewritten : {k d u d' u' : ℕ} {x : Float} {f : Fraction} (g : Fraction) → 0 < g .bot → f .top * g .bot ≡ g .top * f .bot → Range d' u' g → Close k d u x f → Close k d' u' x g
-rewritten {k} {x = x} {f} g G e r c = record {
-  finite = c .finite;
-  proper = G;
-  above = left k (g .top) (g .bot) (f .top) (f .bot) (num x) (den x) (c .proper) (sym e) (c .above);
-  below = right k (num x) (den x) (f .top) (f .bot) (g .top) (g .bot) (c .proper) e (c .below);
-  range = r;
 }
 
 -- a / c is near f, and is rounded

@@ -25,9 +25,6 @@ pub lo-pos : (k : ℕ) → 0 < lo k
 unfolding lo
 lo-pos k = one-le-pow k 9007199254740991 (lit< tt)
 
-pub hi-pos : (k : ℕ) → 0 < hi k
-hi-pos k = le-trans (lo-pos k) (lo≤hi k)
-
 -- a / b ≤ p / q ≤ r / s, each but for some factors
 pub chain : (j k a b p q r s : ℕ) → 0 < q → Under j a b p q → Under k p q r s → Under (j + k) a b r s
 chain j k a b p q r s Q x y =

@@ -1,6 +1,5 @@
 -- One rounding to an f64: of a fraction that is zero, or lies from 2 ^ -900 to 2 ^ 900, `round` gives a finite value but for one factor.
 -- In units of the smallest f64 the fraction is n / c. `round` keeps K units of size 2 ^ d, so K * u is near n for u = c * 2 ^ d, to within half of u, and u is at most n / 2 ^ 52.
---
 use mathlib.Core.Path.{_≡_, sym, ap, _∙_, subst}
 use mathlib.Core.Logic.{_⊎_, inl, inr, ⊎-elim}
 use mathlib.Core.Bool.{true, false, not, true≢false}

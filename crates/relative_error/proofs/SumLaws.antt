@@ -1,4 +1,4 @@
--- The sums of specs/Sum.antt: one place more, and the error of a sum of close floats.
+-- Sums over the first n places: one place more, the same parts, and the error of a sum of close floats.
 use mathlib.Core.Path.{_≡_, refl, sym, ap, ap₂, _∙_}
 use Prim.Native.Nat.{ℕ, zero, suc, _+_, _≤_, _<_}
 use native.Mathlib.Nat.{le-refl, le-add-right}

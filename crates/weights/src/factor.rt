@@ -60,7 +60,7 @@ pub fn kind_of(influence: Influence) -> u8
     }
 }
 
-pub fn factor_of(influence: Influence) -> f64
+fn factor_of(influence: Influence) -> f64
     ensures { λ r. ⌜ r ≡ factorOf influence ⌝ }
 {
     match influence {
@@ -71,7 +71,7 @@ pub fn factor_of(influence: Influence) -> f64
     }
 }
 
-pub fn is_edge(influence: Influence) -> bool
+fn is_edge(influence: Influence) -> bool
     ensures { λ r. ⌜ r ≡ edgeOf influence ⌝ }
 {
     match influence {
@@ -83,7 +83,7 @@ pub fn is_edge(influence: Influence) -> bool
 }
 
 // The factors of the neighbours, in order of choice.
-pub fn factors(c: Chosen) -> [f64; 10]
+pub(crate) fn factors(c: Chosen) -> [f64; 10]
     requires { ⌜ c .count ≤ 10 ⌝ }
     ensures { λ r. ⌜ ((px py i : ℕ) → i < c .count → getD r i nan ≡ factorF (seen px py c .influence i)) ⌝ }
 {
@@ -102,7 +102,7 @@ pub fn factors(c: Chosen) -> [f64; 10]
 }
 
 // Whether each neighbour is at the edge.
-pub fn all_edge(c: Chosen) -> bool
+pub(crate) fn all_edge(c: Chosen) -> bool
     requires { ⌜ c .count ≤ 10 ⌝ }
     ensures { λ r. ⌜ ((px py : ℕ) → r ≡ allEdge (seen px py c .influence) (c .count)) ⌝ }
 {

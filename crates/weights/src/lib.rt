@@ -8,11 +8,7 @@ ghost use lib.Ieee.{nan};
 ghost use lib.ListN.{getD};
 ghost use Rattle.model.specs.Computed.{weightF};
 ghost use Rattle.weights.specs.Seen.{seen, Bounded};
-pub use factor::all_edge;
-pub use factor::factor_of;
-pub use factor::factors;
 pub use factor::influence_at;
-pub use factor::is_edge;
 pub use factor::kind_of;
 use neighbours::Chosen;
 
@@ -29,7 +25,7 @@ pub fn weights(c: Chosen, px: u16, py: u16) -> [f64; 10]
     requires { ⌜ Bounded c ⌝ }
     ensures { λ r. ⌜ ((i : ℕ) → i < c .count → getD r i nan ≡ weightF (seen px py c) i) ⌝ }
 {
-    if all_edge(c) {
+    if factor::all_edge(c) {
         return [1.0; 10];
     }
     directional::weights_apart(c, px, py)

@@ -18,9 +18,9 @@ filled-requires c κs = search needs
 returns : tie.Need-returns
 returns c =
     let d = c .before .before in
-    let h = d .before .nearest .ensures in
+    let h = d .before .nearest .ensures .0 in
     let e = sym (d .coincident .ensures _ _ h) ∙ c .before .if1 .taken in
-    chose-whole _ _ _ (c .filled .ensures _ _ _ h (selects-first _ _ _ h e))
+    (chose-whole _ _ _ (c .filled .ensures _ _ _ h (selects-first _ _ _ h e)), d .before .nearest .ensures .1)
 
 initial-radius-requires : tie.Need-initial-radius-requires
 initial-radius-requires c κs = search needs
@@ -31,9 +31,9 @@ apart-requires c κs = search needs
 returns-2 : tie.Need-returns-2
 returns-2 c =
     let f = c .before .before in
-    let h = f .before .before .nearest .ensures in
+    let h = f .before .before .nearest .ensures .0 in
     let e = sym (f .before .coincident .ensures _ _ h) ∙ f .if1 .left in
-    chose-apart _ _ _ e (c .apart .ensures _ _ h (c .before .initial-radius .ensures _))
+    (chose-apart _ _ _ e (c .apart .ensures _ _ h (c .before .initial-radius .ensures _)), f .before .before .nearest .ensures .1)
 
 pub choose-spec : {M : Type 1} → statement M
 choose-spec =

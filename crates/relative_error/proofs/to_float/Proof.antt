@@ -1,5 +1,4 @@
 -- `relative_error::to_float` meets its contract: a number up to 2 ^ 53 passes the test that the cast asks for.
---
 use native.Mathlib.Omega.{arith}
 use borrow.Author.Needs.{needs}
 use Rattle.model.specs.Computed.{float}

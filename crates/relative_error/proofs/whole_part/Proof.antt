@@ -1,5 +1,4 @@
 -- `relative_error::whole_part` meets its contract. The loop's invariant: y lies from `low` up to, and not at, `high`. The measure is their distance.
---
 use mathlib.Core.Path.{_≡_, sym, _∙_, subst}
 use Prim.Native.Nat.{ℕ, _+_, _-_, _*_, _≤_, _<_}
 use native.Mathlib.Nat.{zero-mul, div-eq-of-lt-le}

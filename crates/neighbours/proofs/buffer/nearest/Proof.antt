@@ -10,12 +10,13 @@ use mir.Facts.{toZ-ofZ}
 use borrow.Author.Needs.{needs}
 use Rattle.model.specs.Point.{location}
 use Rattle.columns.specs.Columns.{surveyIn}
+use Rattle.columns.proofs.ReadLaws.{InRange, in-range-none, in-range-more, points-sound}
 use Rattle.neighbours.proofs.Passed.{HoldsOf, readOf, holds-none, holds-more, read-none, read-more, holds-all}
 use Rattle.neighbours.proofs.buffer.nearest.Statement.{statement}
 use Rattle.neighbours.proofs.buffer.nearest.Tie as tie
 
 abbrev Inv-loop : tie.InvT-loop
-Inv-loop xs ys zs n px py m b₀ i₀ b i = (i ≤ m) × HoldsOf (surveyIn xs ys zs n) (location px py) (readOf xs ys zs i) b
+Inv-loop xs ys zs n px py m b₀ i₀ b i = (i ≤ m) × HoldsOf (surveyIn xs ys zs n) (location px py) (readOf xs ys zs i) b × InRange zs i
 
 abbrev μ-loop : tie.MeasureT-loop
 μ-loop xs ys zs n px py m b₀ i₀ b i = m - i
@@ -27,7 +28,7 @@ none-requires : tie.Need-none-requires Inv-loop μ-loop
 none-requires c κs = search needs
 
 loop-holds : tie.Need-loop-holds Inv-loop μ-loop
-loop-holds c = (omega arith, rw read-none (holds-none _ _ _ (c .none .ensures)))
+loop-holds c = (omega arith, rw read-none (holds-none _ _ _ (c .none .ensures)), in-range-none (c .before .before .args .zs .now))
 
 mul-candidate-at : tie.Need-mul-candidate-at Inv-loop μ-loop
 mul-candidate-at c = omega arith
@@ -63,12 +64,13 @@ loop-again c =
     let s = surveyIn (a .xs .now) (a .ys .now) (a .zs .now) (a .n) in
     let f : SFits w8 (getD (a .zs .now) (l .loop .i) (pos 0)) = search needs in
     let e = rw (toZ-ofZ f) at (c .before .candidate-at .ensures s) in
-    (omega arith, rw (read-more (a .xs .now) (a .ys .now) (a .zs .now) (l .loop .i)) (holds-more s _ _ _ _ _ _ (l .loop .inv .1) e (c .put .ensures .0) (c .put .ensures .1)))
+    (omega arith, rw (read-more (a .xs .now) (a .ys .now) (a .zs .now) (l .loop .i)) (holds-more s _ _ _ _ _ _ (l .loop .inv .1) e (c .put .ensures .0) (c .put .ensures .1)), in-range-more (a .zs .now) (l .loop .i) f (l .loop .inv .2))
 
 returns : tie.Need-returns Inv-loop μ-loop
 returns c =
     let e : c .before .loop .i ≡ c .before .before .before .clamped .result = omega arith in
-    holds-all _ _ _ _ _ _ _ (e ∙ c .before .before .before .clamped .ensures) (c .before .loop .inv .1)
+    let m = e ∙ c .before .before .before .clamped .ensures in
+    (holds-all _ _ _ _ _ _ _ m (c .before .loop .inv .1), points-sound _ _ _ _ (rw m at (c .before .loop .inv .2)))
 
 pub nearest-spec : {M : Type 1} → statement M
 nearest-spec =

@@ -1,0 +1,55 @@
+-- `answer_at` meets its contract: what `choose` ensures is what `answer_of` asks.
+use mathlib.Core.Path.{_∙_}
+use Prim.Native.Nat.{ℕ, _<_, min}
+use native.Mathlib.Omega.{arith}
+use mathlib.Core.List.{List}
+use lib.IntN.{ℤ}
+use mir.Syntax.{w16}
+use mir.Facts.{toZ-ofZ}
+use borrow.Author.Needs.{needs}
+use Rattle.model.specs.Lists.{All}
+use Rattle.model.specs.Point.{location}
+use Rattle.model.specs.Invariant.{Sound}
+use Rattle.columns.specs.Columns.{pointsIn, surveyIn}
+use Rattle.columns.proofs.ReadLaws.{length-points}
+use Rattle.neighbours.specs.declared.Chosen.{Chosen}
+use Rattle.neighbours.specs.Chose.{Chose}
+use Rattle.mean.specs.Asked.{Asked}
+use Rattle.mean.proofs.answer_at.Statement.{statement}
+use Rattle.mean.proofs.answer_at.Tie as tie
+
+asked : (xs ys : List ℕ) (zs : List ℤ) (n px py : ℕ) (c : Chosen) → (px < 4096) × (py < 4096) × (0 < n)
+    → Chose (surveyIn xs ys zs n) (location px py) c → All Sound (pointsIn xs ys zs n) → Asked (surveyIn xs ys zs n) px py c
+asked xs ys zs n px py c h chose sound = record {
+  domain = (h .0, h .1);
+  some = omega (arith, h .2, length-points xs ys zs n);
+  sound = sound;
+  chose = chose;
+}
+
+choose-requires : tie.Need-choose-requires
+choose-requires c κs = (c .pre .0, c .pre .1)
+
+answer-of-requires : tie.Need-answer-of-requires
+answer-of-requires c κs =
+    let e = c .before in
+    let a = e .args in (
+      surveyIn (a .xs .now) (a .ys .now) (a .zs .now) (a .n),
+      asked (a .xs .now) (a .ys .now) (a .zs .now) (a .n) (a .px) (a .py) (c .choose .result) (e .pre) (c .choose .ensures .0) (c .choose .ensures .1),
+    )
+
+returns : tie.Need-returns
+returns c =
+    let k = c .before .choose in
+    let e = c .before .before in
+    let a = e .args in
+    record {
+      answer =
+          toZ-ofZ {w = w16} (record { sfits = c .answer-of .ok })
+          ∙ c .answer-of .ensures (surveyIn (a .xs .now) (a .ys .now) (a .zs .now) (a .n))
+          (asked (a .xs .now) (a .ys .now) (a .zs .now) (a .n) (a .px) (a .py) (k .result) (e .pre) (k .ensures .0) (k .ensures .1));
+      chosen = k .ensures .0;
+    }
+
+pub answer-at-spec : {M : Type 1} → statement M
+answer-at-spec = tie.close (tie.spec choose-requires answer-of-requires returns)
