@@ -20,7 +20,7 @@ use Rattle.model.specs.Invariant.{Sound}
 use Rattle.laws.proofs.ListLaws.{all-imp, all-below}
 use Rattle.laws.proofs.RecordLaws.{domain-bounds}
 use Rattle.laws.proofs.ValueLaws.{least-all, least-keeps, above, spread}
-use Rattle.laws.proofs.ChosenLaws.{chosen-all, chosen-some, chosen-most, chosen-apart, point-most, chosen-radius}
+use Rattle.laws.proofs.ChosenLaws.{Inside, chosen-all, chosen-some, chosen-most, chosen-apart, point-most, chosen-radius}
 use Rattle.laws.proofs.InnerLaws.{excess-most}
 use Rattle.error_bound.proofs.Fair.{Proper, Fair, Spread}
 
@@ -37,17 +37,17 @@ proper few r d D d' r' = go (eqb d 0) few (leb (3 * d) r) (ltb d r) refl
     go false false false false e = tt
 
 module _ (s : State) (p : Location) (domain : (p .x < 4096) × (p .y < 4096)) (some : 0 < length (s .points)) (sound : All Sound (s .points)) where
-  sheet : All (λ a. (a .x < 4096) × (a .y < 4096)) (s .points)
-  sheet = all-imp Sound (λ a. (a .x < 4096) × (a .y < 4096)) (λ a h. domain-bounds (a .x) (a .y) (h .location)) (s .points) sound
+  inside : All Inside (s .points)
+  inside = all-imp Sound Inside (λ a h. domain-bounds (a .x) (a .y) (h .location)) (s .points) sound
 
   abbrev chosen : ℕ → Point
   chosen i = getD (choice s p .points) i (point 0 0 (pos 0))
 
-  chosen-sheet : (i : ℕ) → i < length (choice s p .points) → (chosen i .x < 4096) × (chosen i .y < 4096)
-  chosen-sheet i l = all-below (λ a. (a .x < 4096) × (a .y < 4096)) (choice s p .points) i (point 0 0 (pos 0)) (chosen-all s p (λ a. (a .x < 4096) × (a .y < 4096)) sheet) l
+  chosen-inside : (i : ℕ) → i < length (choice s p .points) → Inside (chosen i)
+  chosen-inside i l = all-below Inside (choice s p .points) i (point 0 0 (pos 0)) (chosen-all s p Inside inside) l
 
   chosen-far : (i : ℕ) → i < length (choice s p .points) → distance s p (chosen i) ≤ 16777216
-  chosen-far i l = point-most s p domain (chosen i) (chosen-sheet i l)
+  chosen-far i l = point-most s p domain (chosen i) (chosen-inside i l)
 
   module _ (apart : coincident s p ≡ false) where
     chosen-off : (i : ℕ) → i < length (choice s p .points) → 0 < distance s p (chosen i)
@@ -58,8 +58,8 @@ module _ (s : State) (p : Location) (domain : (p .x < 4096) × (p .y < 4096)) (s
     neighbourhood-fair = record {
       some = chosen-some s p some;
       most = chosen-most s p;
-      influences = λ i l. proper (few s) (choice s p .radius) (distance s p (chosen i)) (chosen-off i l) (chosen-far i l) (chosen-radius s p domain some sheet);
-      excesses = λ i j k l. excess-most s p (chosen i) (chosen j) domain (chosen-sheet i k) (chosen-sheet j l) (chosen-far i k) (chosen-far j l);
+      influences = λ i l. proper (few s) (choice s p .radius) (distance s p (chosen i)) (chosen-off i l) (chosen-far i l) (chosen-radius s p domain some inside);
+      excesses = λ i j k l. excess-most s p (chosen i) (chosen j) domain (chosen-inside i k) (chosen-inside j l) (chosen-far i k) (chosen-far j l);
       products = λ i j k l. (mul-pos (chosen-off i k) (chosen-off j l), mul-le-mul (chosen-far i k) (chosen-far j l));
     }
 

@@ -23,6 +23,10 @@ use Rattle.laws.proofs.OrderLaws.{sort-all}
 use Rattle.laws.proofs.NearestLaws.{length-ordered, choice-coincident}
 use Rattle.laws.proofs.ChoiceLaws.{squared-zero, squared-apart, coincident-is}
 
+-- a point in the domain, by the order of numbers
+abbrev pub Inside : Point → Type 0
+Inside a = (a .x < 4096) × (a .y < 4096)
+
 -- D of a squared distance that fits 32 bits
 pub distance-most : (n : ℕ) → n < 4294967296 → distanceOf n ≤ 16777216
 distance-most n h = distance-le-iff n 16777216 .1 (omega arith)
@@ -128,7 +132,7 @@ module _ (s : State) (p : Location) where
       (chosen-all (λ a. at (p .x) (p .y) a ≡ false) (apart-points (s .points) (sym (coincident-is s p) ∙ h)))
 
   module _ (domain : (p .x < 4096) × (p .y < 4096)) where
-    pub point-most : (a : Point) → (a .x < 4096) × (a .y < 4096) → distance s p a ≤ 16777216
+    pub point-most : (a : Point) → Inside a → distance s p a ≤ 16777216
     unfolding distance squared
     point-most a h =
         let g : gap (p .x) (a .x) ≤ 4095 = gap-most (p .x) (a .x) (domain .0) (h .0) in
@@ -137,18 +141,18 @@ module _ (s : State) (p : Location) where
         let v = mul-le-mul k k in
         distance-most (squared s p a) (omega arith)
 
-    module _ (some : 0 < length (s .points)) (sheet : All (λ a. (a .x < 4096) × (a .y < 4096)) (s .points)) where
+    module _ (some : 0 < length (s .points)) (inside : All Inside (s .points)) where
       distanceAt-most : (i : ℕ) → distanceAt s p i ≤ 16777216
       unfolding distanceAt
       distanceAt-most i =
           point-most (getD (ordered s p) i (point 0 0 (pos 0)))
-          (all-at (λ a. (a .x < 4096) × (a .y < 4096)) (ordered s p) i (point 0 0 (pos 0)) (omega arith, omega arith) (ordered-all (λ a. (a .x < 4096) × (a .y < 4096)) sheet))
+          (all-at Inside (ordered s p) i (point 0 0 (pos 0)) (omega arith, omega arith) (ordered-all Inside inside))
 
       initial-most : initialRadius s ≤ 16777216
       unfolding initialRadius area
       initial-most =
-          let x = max-most 4095 (xs s) (all-map (λ n. n ≤ 4095) (λ (a : Point). a .x) (s .points) (all-imp (λ a. (a .x < 4096) × (a .y < 4096)) (λ a. a .x ≤ 4095) (λ a h. omega (arith, h .0)) (s .points) sheet)) in
-          let y = max-most 4095 (ys s) (all-map (λ n. n ≤ 4095) (λ (a : Point). a .y) (s .points) (all-imp (λ a. (a .x < 4096) × (a .y < 4096)) (λ a. a .y ≤ 4095) (λ a h. omega (arith, h .1)) (s .points) sheet)) in
+          let x = max-most 4095 (xs s) (all-map (λ n. n ≤ 4095) (λ (a : Point). a .x) (s .points) (all-imp Inside (λ a. a .x ≤ 4095) (λ a h. omega (arith, h .0)) (s .points) inside)) in
+          let y = max-most 4095 (ys s) (all-map (λ n. n ≤ 4095) (λ (a : Point). a .y) (s .points) (all-imp Inside (λ a. a .y ≤ 4095) (λ a h. omega (arith, h .1)) (s .points) inside)) in
           let u : through max (xs s) - through min (xs s) ≤ 4095 = omega arith in
           let v : through max (ys s) - through min (ys s) ≤ 4095 = omega arith in
           radius-most (area s) (length (s .points)) some (mul-le-mul u v)
