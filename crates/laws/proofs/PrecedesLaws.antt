@@ -1,11 +1,11 @@
 -- Lexical order: what it says in numbers, and that it is strict and transitive; of points by x, then y.
-use mathlib.Core.Path.{_≡_, refl}
+use mathlib.Core.Path.{_≡_, refl, _∙_}
 use mathlib.Core.Logic.{_⊎_, inl, inr}
 use Prim.Native.Nat.{ℕ, _<_}
 use native.Mathlib.Omega.{arith}
 use mathlib.Core.Bool.{Bool, true, false, _&&_, _||_, false≢true}
 use lib.Dec.{ltb, eqb}
-use borrow.Author.Tests.{ltb-true, lt-ltb, le-ltb, eqb-true, eq-eqb}
+use borrow.Author.Tests.{ltb-true, lt-ltb, le-ltb, eqb-true, eq-eqb, ne-eqb}
 use Rattle.model.specs.Point.{Point, lexical, precedes}
 
 pub lexical-true : (m n : ℕ) (t : Bool) → lexical m n t ≡ true → (m < n) ⊎ ((m ≡ n) × (t ≡ true))
@@ -19,8 +19,15 @@ lexical-true m n t h = go (ltb m n) (eqb m n) refl refl h
 pub less-lexical : (m n : ℕ) (t : Bool) → m < n → lexical m n t ≡ true
 less-lexical m n t h = rw (lt-ltb m n h)
 
+pub more-lexical : (m n : ℕ) (t : Bool) → n < m → lexical m n t ≡ false
+more-lexical m n t h = rw (le-ltb m n (omega arith), ne-eqb m n (λ e. omega arith))
+
+-- of equal numbers the rest decides
+pub tie-lexical : (m n : ℕ) (t : Bool) → m ≡ n → lexical m n t ≡ t
+tie-lexical m n t e = rw (le-ltb m n (omega arith), eq-eqb m n e)
+
 pub equal-lexical : (m n : ℕ) (t : Bool) → m ≡ n → t ≡ true → lexical m n t ≡ true
-equal-lexical m n t e h = rw (le-ltb m n (omega arith), eq-eqb m n e) h
+equal-lexical m n t e h = tie-lexical m n t e ∙ h
 
 pub lexical-trans : (m n k : ℕ) (s t u : Bool) → (s ≡ true → t ≡ true → u ≡ true) → lexical m n s ≡ true → lexical n k t ≡ true → lexical m k u ≡ true
 lexical-trans m n k s t u rest p q = go (lexical-true m n s p) (lexical-true n k t q)
@@ -32,7 +39,7 @@ lexical-trans m n k s t u rest p q = go (lexical-true m n s p) (lexical-true n k
     go (inr a) (inr b) = equal-lexical m k u (omega arith) (rest (a .1) (b .1))
 
 pub lexical-self : (m : ℕ) (t : Bool) → t ≡ false → lexical m m t ≡ false
-lexical-self m t h = rw (le-ltb m m (omega arith), eq-eqb m m refl) h
+lexical-self m t h = tie-lexical m m t refl ∙ h
 
 less-trans : (m n k : ℕ) → ltb m n ≡ true → ltb n k ≡ true → ltb m k ≡ true
 less-trans m n k p q = lt-ltb m k (omega (arith, ltb-true m n p, ltb-true n k q))
