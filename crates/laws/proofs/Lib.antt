@@ -1,6 +1,7 @@
 -- Laws of the definitions, in the order in which they can be read.
 pub mod Tests
 pub mod ListLaws
+pub mod MapLaws
 pub mod IntLaws
 pub mod DiffLaws
 pub mod ValueLaws

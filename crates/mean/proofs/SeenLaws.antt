@@ -2,12 +2,11 @@
 use mathlib.Core.Path.{_≡_, refl, sym, ap, ap₂, _∙_}
 use mathlib.Core.Bool.{_&&_}
 use Prim.Native.Nat.{ℕ, zero, suc, _*_, _<_}
-use native.Mathlib.Nat.{not-suc-le-zero, le-of-suc-le-suc}
 use native.Mathlib.Omega.{arith}
 use mathlib.Core.List.{List, [], _∷_, map}
 use lib.Ieee.{Float, binary64, mul, div}
 use lib.IntN.{ℤ, pos}
-use lib.ListN.{length, getD}
+use lib.ListN.{getD}
 use lib.Seq.{getD-take}
 use Rattle.model.specs.Point.{Location, Point, State, point, location}
 use Rattle.model.specs.Distance.{inner}
@@ -16,6 +15,7 @@ use Rattle.model.specs.Influence.{Influence, isEdge}
 use Rattle.model.specs.Weight.{Neighbourhood, allEdge, excessOf, neighbourhoodOf, neighbourhood}
 use Rattle.model.specs.Mean.{valuesBy, lesser, leastChosen}
 use Rattle.model.specs.Computed.{float, sumF, factorF, factorAtF, termF, weightF, scaledMeanF, lessenedF, meanF}
+use Rattle.laws.proofs.MapLaws.{getD-map}
 use Rattle.relative_error.proofs.SumLaws.{sumF-same}
 use Rattle.neighbours.specs.declared.Neighbour.{Neighbour}
 use Rattle.neighbours.specs.declared.Chosen.{Chosen}
@@ -62,11 +62,6 @@ module _ (g h : Neighbourhood) (A : Agree g h) where
       ∙ ap (sumF (λ i. mul binary64 (weightF h i) (lessenedF least (h .value i)))) (A .count))
       (sumF-same (weightF g) (weightF h) (g .count) weight-same ∙ ap (sumF (weightF h)) (A .count))
 
-getD-map-lt : {A B : Type 0} (f : A → B) (l : List A) (i : ℕ) (d : A) (e : B) → i < length l → getD (map f l) i e ≡ f (getD l i d)
-getD-map-lt f [] i d e h = absurd (not-suc-le-zero h)
-getD-map-lt f (a ∷ l) zero d e h = refl
-getD-map-lt f (a ∷ l) (suc i) d e h = getD-map-lt f l i d e (le-of-suc-le-suc h)
-
 points-back : (s : State) (p : Location) (l : List Point) → map pointOf (map (neighbourAt s p) l) ≡ l
 unfolding neighbourAt
 points-back s p [] = refl
@@ -83,7 +78,7 @@ module _ (s : State) (px py : ℕ) (c : Chosen) (C : Chose s (location px py) c)
   item-is i l =
       sym (getD-take (c .count) (c .items) i noNeighbour l)
       ∙ ap (λ (m : List Neighbour). getD m i noNeighbour) (C .items)
-      ∙ getD-map-lt (neighbourAt s place) (choice s place .points) i (point 0 0 (pos 0)) noNeighbour (rw (C .count) at l)
+      ∙ getD-map (neighbourAt s place) (choice s place .points) i noNeighbour (point 0 0 (pos 0)) (rw (C .count) at l)
 
   pub seen-agrees : Agree (seen px py c) (neighbourhood s place)
   unfolding seen neighbourhood neighbourhoodOf neighbourAt excessBetween excessOf inner

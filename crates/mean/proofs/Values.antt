@@ -1,5 +1,5 @@
 -- Values: the least of the first i, one more taken in, and how far two values lie apart.
-use mathlib.Core.Path.{_≡_, refl, sym, ap, ap₂, _∙_}
+use mathlib.Core.Path.{_≡_, refl, ap, ap₂, _∙_}
 use Prim.Native.Nat.{ℕ, suc, _+_, _-_, _%_, _≤_, _<_}
 use native.Mathlib.Nat.{not-suc-le-zero}
 use native.Mathlib.Numerals.{add-one}
@@ -16,9 +16,6 @@ use Rattle.model.specs.Mean.{valuesBy, lesser}
 use Rattle.laws.proofs.DiffLaws.{diff, diff-of, diff-same, diff-minus, abs-diff}
 use Rattle.neighbours.specs.declared.Neighbour.{Neighbour}
 use Rattle.weights.specs.Seen.{noNeighbour, pointOf}
-
-pub length-under : {X Y : Type 0} (f : X → Y) (l : List X) (n : ℕ) → length (map f l) ≡ n → length l ≡ n
-length-under f l n h = sym (length-map l f) ∙ h
 
 pub least-first : (l : List Neighbour) → 0 < length l → getD l 0 noNeighbour .z ≡ valuesBy lesser (map pointOf (take 1 l))
 unfolding valuesBy

@@ -19,7 +19,7 @@ use Rattle.neighbours.specs.declared.Chosen.{Chosen}
 use Rattle.neighbours.specs.Chose.{neighbourAt, Chose}
 use Rattle.neighbours.specs.Nearest.{candidateAt, HoldsNearest}
 use Rattle.neighbours.specs.Selects.{Selects, withDistance, Gives}
-use Rattle.neighbours.proofs.Mapped.{take-map}
+use Rattle.laws.proofs.MapLaws.{take-map}
 
 -- a test of a number cut above it
 leb-min : (k n b : ℕ) → b < k → leb (min k n) b ≡ leb n b

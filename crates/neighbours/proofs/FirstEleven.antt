@@ -21,7 +21,7 @@ use Rattle.neighbours.specs.declared.Candidate.{Candidate}
 use Rattle.neighbours.specs.declared.Candidates.{Candidates}
 use Rattle.neighbours.specs.Nearest.{candidateAt, withinOf, noCandidate, listOf, HoldsNearest}
 use Rattle.neighbours.specs.Selects.{Selects}
-use Rattle.neighbours.proofs.Mapped.{take-map, getD-map, count-map}
+use Rattle.laws.proofs.MapLaws.{take-map, getD-map, count-map}
 
 abbrev noPoint : Point
 noPoint = point 0 0 (pos 0)

@@ -1,5 +1,4 @@
 -- Facts that the proofs of this crate share.
-pub mod Mapped
 pub mod Insertions
 pub mod Passed
 pub mod FirstEleven

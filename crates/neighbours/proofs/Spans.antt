@@ -14,7 +14,7 @@ use Rattle.laws.proofs.ListLaws.{tabulate-more, length-tabulate}
 use Rattle.columns.specs.Columns.{held, wrapped, pointsIn, surveyIn}
 use Rattle.columns.proofs.HeldLaws.{length-held}
 use Rattle.neighbours.specs.Extent.{coordinates}
-use Rattle.neighbours.proofs.Mapped.{map-tabulate}
+use Rattle.laws.proofs.MapLaws.{map-tabulate}
 
 through-last : (op : ℕ → ℕ → ℕ) (l : List ℕ) (b : ℕ) → 0 < length l → through op (l ++ (b ∷ [])) ≡ op (through op l) b
 unfolding through

@@ -4,7 +4,6 @@ ghost use mathlib.Core.List.{_++_, _∷_};
 ghost use Prim.Native.Nat.{_+_, _<_, _≤_, min};
 ghost use lib.ListN.{take, drop};
 ghost use Rattle.model.specs.Point.{State, location, point};
-ghost use Rattle.model.specs.Distance.{gap as gapOf};
 ghost use Rattle.model.specs.Order.{insert};
 ghost use Rattle.model.specs.Lists.{All};
 ghost use Rattle.model.specs.Invariant.{Sound};
@@ -88,15 +87,6 @@ fn put(b: Candidates, e: Candidate) -> Candidates
     }
 }
 
-fn gap(a: u16, b: u16) -> u32
-    ensures { λ r. ⌜ r ≡ gapOf a b ⌝ }
-{
-    if a < b {
-        return (b - a) as u32;
-    }
-    (a - b) as u32
-}
-
 // A point of the arrays as it is read, seen from (px, py).
 fn candidate_at(px: u16, py: u16, x: u16, y: u16, z: i8) -> Candidate
     requires { ⌜ (px < 4096) × (py < 4096) ⌝ }
@@ -104,13 +94,13 @@ fn candidate_at(px: u16, py: u16, x: u16, y: u16, z: i8) -> Candidate
 {
     let a = columns::coordinate(x);
     let b = columns::coordinate(y);
-    let dx = gap(px, a);
-    let dy = gap(py, b);
+    let dx = numbers::gap(px as u64, a as u64);
+    let dy = numbers::gap(py as u64, b as u64);
     Candidate {
         x: a,
         y: b,
         z: z,
-        squared: dx * dx + dy * dy,
+        squared: (dx * dx + dy * dy) as u32,
     }
 }
 

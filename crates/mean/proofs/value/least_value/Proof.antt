@@ -10,7 +10,8 @@ use mir.Facts.{toZ-ofZ}
 use borrow.Author.Needs.{needs}
 use Rattle.model.specs.Mean.{valuesBy, lesser}
 use Rattle.weights.specs.Seen.{pointOf, pointsHeld, noNeighbour}
-use Rattle.mean.proofs.Values.{length-under, least-first, least-more}
+use Rattle.laws.proofs.MapLaws.{length-under}
+use Rattle.mean.proofs.Values.{least-first, least-more}
 use lib.IntN.{ℤ}
 use Rattle.mean.proofs.value.least_value.Statement.{statement}
 use Rattle.mean.proofs.value.least_value.Tie as tie

@@ -27,8 +27,14 @@ coordinate-requires c κs = search needs
 coordinate-requires-2 : tie.Need-coordinate-requires-2
 coordinate-requires-2 c κs = search needs
 
+cast-gap : tie.Need-cast-gap
+cast-gap c = search needs
+
 gap-requires : tie.Need-gap-requires
 gap-requires c κs = search needs
+
+cast-gap-2 : tie.Need-cast-gap-2
+cast-gap-2 c = search needs
 
 gap-requires-2 : tie.Need-gap-requires-2
 gap-requires-2 c κs = search needs
@@ -45,6 +51,12 @@ add-t12 c =
     let h : c .gap2 .result ≤ 4095 = omega arith in
     omega (arith, square _ g, square _ h)
 
+cast-t13 : tie.Need-cast-t13
+cast-t13 c =
+    let g : c .before .gap .result ≤ 4095 = omega arith in
+    let h : c .gap2 .result ≤ 4095 = omega arith in
+    omega (arith, square _ g, square _ h)
+
 returns : tie.Need-returns
 returns c =
     let b = c .before .before in
@@ -57,9 +69,12 @@ candidate-at-spec =
     (tie.spec
     coordinate-requires
     coordinate-requires-2
+    cast-gap
     gap-requires
+    cast-gap-2
     gap-requires-2
     mul-t10
     mul-t11
     add-t12
+    cast-t13
     returns)

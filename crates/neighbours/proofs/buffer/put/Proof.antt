@@ -11,7 +11,7 @@ use Rattle.model.specs.Order.{insert}
 use Rattle.laws.proofs.SortLaws.{insert-at}
 use Rattle.neighbours.specs.declared.Candidate.{Candidate}
 use Rattle.neighbours.specs.Nearest.{precedesBy, noCandidate, Place}
-use Rattle.neighbours.proofs.Mapped.{length-under}
+use Rattle.laws.proofs.MapLaws.{length-under}
 use Rattle.neighbours.proofs.Insertions.{putIn, put-room, put-full}
 use Rattle.neighbours.proofs.buffer.put.Statement.{statement}
 use Rattle.neighbours.proofs.buffer.put.Tie as tie

@@ -16,7 +16,7 @@ use Rattle.model.specs.Distance.{distanceOf}
 use Rattle.laws.proofs.RootLaws.{distance-le-iff}
 use Rattle.neighbours.specs.declared.Candidate.{Candidate}
 use Rattle.neighbours.specs.Nearest.{withinOf, noCandidate}
-use Rattle.neighbours.proofs.Mapped.{length-under, count-last}
+use Rattle.laws.proofs.MapLaws.{length-under, count-last}
 use Rattle.neighbours.proofs.choice.count_within.Statement.{statement}
 use Rattle.neighbours.proofs.choice.count_within.Tie as tie
 

@@ -11,7 +11,7 @@ use Rattle.neighbours.specs.declared.Candidate.{Candidate}
 use Rattle.neighbours.specs.declared.Neighbour.{Neighbour}
 use Rattle.neighbours.specs.Nearest.{noCandidate}
 use Rattle.neighbours.specs.Selects.{withDistance}
-use Rattle.neighbours.proofs.Mapped.{length-under}
+use Rattle.laws.proofs.MapLaws.{length-under}
 use Rattle.neighbours.proofs.choice.neighbours.Statement.{statement}
 use Rattle.neighbours.proofs.choice.neighbours.Tie as tie
 
