@@ -65,7 +65,7 @@ fn answer_of(c: Chosen, px: u16, py: u16) -> i16
     above(least, k)
 }
 
-// The answer at (px, py) of the points that the arrays hold. `answer-right` in error_bound says how near it is to the exact mean.
+// The answer at (px, py) of the points that the arrays hold, and the neighbours that it goes by.
 pub fn answer_at<'a>(
     xs: &'a [u16; 256],
     ys: &'a [u16; 256],

@@ -1,17 +1,18 @@
 -- `answer_at` meets its contract: what `choose` ensures is what `answer_of` asks.
-use mathlib.Core.Path.{_∙_}
-use Prim.Native.Nat.{ℕ, _<_, min}
+use mathlib.Core.Path.{sym, subst, _∙_}
+use Prim.Native.Nat.{ℕ, _<_}
 use native.Mathlib.Omega.{arith}
 use mathlib.Core.List.{List}
 use lib.IntN.{ℤ}
 use mir.Syntax.{w16}
 use mir.Facts.{toZ-ofZ}
-use borrow.Author.Needs.{needs}
 use Rattle.model.specs.Lists.{All}
 use Rattle.model.specs.Point.{location}
+use Rattle.model.specs.Mean.{Right}
 use Rattle.model.specs.Invariant.{Sound}
 use Rattle.columns.specs.Columns.{pointsIn, surveyIn}
 use Rattle.columns.proofs.ReadLaws.{length-points}
+use Rattle.error_bound.proofs.AnswerRight.{answer-right}
 use Rattle.neighbours.specs.declared.Chosen.{Chosen}
 use Rattle.neighbours.specs.Chose.{Chose}
 use Rattle.mean.specs.Asked.{Asked}
@@ -43,11 +44,13 @@ returns c =
     let k = c .before .choose in
     let e = c .before .before in
     let a = e .args in
+    let s = surveyIn (a .xs .now) (a .ys .now) (a .zs .now) (a .n) in
+    let p = location (a .px) (a .py) in
+    let A = asked (a .xs .now) (a .ys .now) (a .zs .now) (a .n) (a .px) (a .py) (k .result) (e .pre) (k .ensures .0) (k .ensures .1) in
+    let same = toZ-ofZ {w = w16} (record { sfits = c .answer-of .ok }) ∙ c .answer-of .ensures s A in
     record {
-      answer =
-          toZ-ofZ {w = w16} (record { sfits = c .answer-of .ok })
-          ∙ c .answer-of .ensures (surveyIn (a .xs .now) (a .ys .now) (a .zs .now) (a .n))
-          (asked (a .xs .now) (a .ys .now) (a .zs .now) (a .n) (a .px) (a .py) (k .result) (e .pre) (k .ensures .0) (k .ensures .1));
+      answer = same;
+      right = subst (λ (z : ℤ). Right s p z) (sym same) (answer-right s p (A .domain) (A .some) (A .sound));
       chosen = k .ensures .0;
     }
 
