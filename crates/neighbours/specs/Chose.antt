@@ -1,4 +1,4 @@
--- That a struct holds the neighbours of a location: the choice of document 01, with d² and D beside each point.
+-- That a struct holds the neighbours of a location: the choice of document 01, with d² and D beside each point. What the items past the count hold is free.
 use mathlib.Core.Path.{_≡_}
 use Prim.Native.Nat.{_≤_}
 use mathlib.Core.List.{map}
