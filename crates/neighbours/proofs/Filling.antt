@@ -13,11 +13,11 @@ use Rattle.model.specs.Distance.{distance}
 use Rattle.model.specs.Choice.{Choice, ordered, coincident, choiceApart, choice}
 use Rattle.laws.proofs.NearestLaws.{length-ordered, choice-otherwise}
 use Rattle.neighbours.specs.declared.Neighbour.{Neighbour}
-use Rattle.neighbours.specs.declared.Candidates.{Candidates}
+use Rattle.candidates.specs.declared.Candidates.{Candidates}
 use Rattle.neighbours.specs.declared.Selection.{Selection}
 use Rattle.neighbours.specs.declared.Chosen.{Chosen}
 use Rattle.neighbours.specs.Chose.{neighbourAt, Chose}
-use Rattle.neighbours.specs.Nearest.{candidateAt, HoldsNearest}
+use Rattle.candidates.specs.Nearest.{candidateAt, HoldsNearest}
 use Rattle.neighbours.specs.Selects.{Selects, withDistance, Gives}
 use Rattle.laws.proofs.MapLaws.{take-map}
 

@@ -17,9 +17,9 @@ use Rattle.model.specs.Radius.{initialRadius}
 use Rattle.model.specs.Choice.{ordered, within, distanceAt, choiceApart, startsAt, coincident, choice}
 use Rattle.laws.proofs.ChoiceLaws.{squared-zero, squared-apart}
 use Rattle.laws.proofs.NearestLaws.{length-ordered, within-first, within-le, choice-coincident, rule-few, rule-four, rule-some, rule-ten}
-use Rattle.neighbours.specs.declared.Candidate.{Candidate}
-use Rattle.neighbours.specs.declared.Candidates.{Candidates}
-use Rattle.neighbours.specs.Nearest.{candidateAt, withinOf, noCandidate, listOf, HoldsNearest}
+use Rattle.candidates.specs.declared.Candidate.{Candidate}
+use Rattle.candidates.specs.declared.Candidates.{Candidates}
+use Rattle.candidates.specs.Nearest.{candidateAt, withinOf, noCandidate, listOf, HoldsNearest}
 use Rattle.neighbours.specs.Selects.{Selects}
 use Rattle.laws.proofs.MapLaws.{take-map, getD-map, count-map}
 

@@ -6,7 +6,7 @@ use lib.ListN.{length, take}
 use Rattle.model.specs.Point.{Location, State}
 use Rattle.model.specs.Distance.{distanceOf}
 use Rattle.model.specs.Choice.{Choice, ordered, few}
-use Rattle.neighbours.specs.declared.Candidate.{Candidate}
+use Rattle.candidates.specs.declared.Candidate.{Candidate}
 use Rattle.neighbours.specs.declared.Neighbour.{Neighbour}
 use Rattle.neighbours.specs.declared.Selection.{Selection}
 use Rattle.neighbours.specs.declared.Chosen.{Chosen}

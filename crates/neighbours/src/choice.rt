@@ -7,13 +7,13 @@ ghost use Rattle.model.specs.Lists.{count as countOf};
 ghost use Rattle.model.specs.Point.{State, Location};
 ghost use Rattle.model.specs.Radius.{initialRadius};
 ghost use Rattle.model.specs.Choice.{Choice, coincident as coincidentAt, choiceApart};
-ghost use Rattle.neighbours.specs.Nearest.{listOf, withinOf, HoldsNearest};
+ghost use Rattle.candidates.specs.Nearest.{listOf, withinOf, HoldsNearest};
 ghost use Rattle.neighbours.specs.Selects.{Selects, withDistance, Gives};
-use crate::Candidate;
-use crate::Candidates;
 use crate::Chosen;
 use crate::Neighbour;
 use crate::Selection;
+use candidates::Candidate;
+use candidates::Candidates;
 
 // Whether a point is at the location: the nearest, if any is.
 pub(crate) fn coincident(b: Candidates) -> bool

@@ -1,15 +1,9 @@
-// Which points a lookup goes by: document 01, "Search radius" and "Who is chosen", over lent arrays and a count.
-mod buffer;
+// Which points a lookup goes by: document 01, "Who is chosen", over lent arrays and a count.
 mod choice;
-mod extent;
 
-ghost use mathlib.Core.Path.{_≡_};
-ghost use mathlib.Core.List.{List};
 ghost use Prim.Native.Nat.{_<_};
-ghost use lib.IntN.{ℤ};
 ghost use Rattle.model.specs.Point.{location};
 ghost use Rattle.model.specs.Lists.{All};
-ghost use Rattle.model.specs.Radius.{initialRadius};
 ghost use Rattle.model.specs.Invariant.{Sound};
 ghost use Rattle.columns.specs.Columns.{pointsIn, surveyIn};
 ghost use Rattle.neighbours.specs.Chose.{Chose};
@@ -31,37 +25,10 @@ pub struct Chosen {
     pub few: bool,
 }
 
-// A point with its squared distance, before it is known whether it is chosen.
-struct Candidate {
-    x: u16,
-    y: u16,
-    z: i8,
-    squared: u32,
-}
-
-// The nearest of the points passed, the first `count` of `items`, in order.
-struct Candidates {
-    items: [Candidate; 11],
-    count: usize,
-}
-
 // How many of the nearest are chosen, and the radius R.
 struct Selection {
     count: usize,
     radius: u32,
-}
-
-// R0 of the points; 0 of none.
-pub fn initial_radius<'a>(xs: &'a [u16; 256], ys: &'a [u16; 256], n: usize) -> u32
-    ensures { λ r. ⌜ ((zs : List ℤ) → r ≡ initialRadius (surveyIn (now (xs .entry)) (now (ys .entry)) zs n)) ⌝ }
-{
-    let m = columns::clamped(n);
-    if m == 0 {
-        return 0;
-    }
-    let wide = extent::span(xs, m) as u64;
-    let high = extent::span(ys, m) as u64;
-    root::radius_of(wide * high, m as u64)
 }
 
 // The neighbours of (px, py). Each point of the arrays as it is read is in the domain and in range. Rules 2 to 5 stand alone in `choice::apart`, for a lookup where no point is at the location.
@@ -77,7 +44,7 @@ pub fn choose<'a>(
     ensures { λ r. ⌜ Chose (surveyIn (now (xs .entry)) (now (ys .entry)) (now (zs .entry)) n) (location px py) r ⌝ }
     ensures { λ _. ⌜ All Sound (pointsIn (now (xs .entry)) (now (ys .entry)) (now (zs .entry)) n) ⌝ }
 {
-    let b = buffer::nearest(xs, ys, zs, n, px, py);
+    let b = candidates::nearest(xs, ys, zs, n, px, py);
     if choice::coincident(b) {
         let first = Selection {
             count: 1,
@@ -85,6 +52,6 @@ pub fn choose<'a>(
         };
         return choice::filled(b, first);
     }
-    let r0 = initial_radius(xs, ys, n);
+    let r0 = extent::initial_radius(xs, ys, n);
     choice::apart(b, r0)
 }

@@ -1,5 +1,5 @@
 -- Facts that the proofs of this crate share.
-pub mod InfluenceLaws
+pub mod EdgeLaws
 pub mod Places
 pub mod TermLaws
 pub mod Products

@@ -14,8 +14,8 @@ use borrow.Author.Tests.{le-leb, lt-leb}
 use Rattle.model.specs.Lists.{count}
 use Rattle.model.specs.Distance.{distanceOf}
 use Rattle.laws.proofs.RootLaws.{distance-le-iff}
-use Rattle.neighbours.specs.declared.Candidate.{Candidate}
-use Rattle.neighbours.specs.Nearest.{withinOf, noCandidate}
+use Rattle.candidates.specs.declared.Candidate.{Candidate}
+use Rattle.candidates.specs.Nearest.{withinOf, noCandidate}
 use Rattle.laws.proofs.MapLaws.{length-under, count-last}
 use Rattle.neighbours.proofs.choice.count_within.Statement.{statement}
 use Rattle.neighbours.proofs.choice.count_within.Tie as tie

@@ -7,9 +7,9 @@ use mathlib.Core.List.{List, map, map-append}
 use lib.ListN.{length, take, getD, set, length-set}
 use lib.Seq.{take-suc, take-suc-set}
 use borrow.Author.Needs.{needs}
-use Rattle.neighbours.specs.declared.Candidate.{Candidate}
+use Rattle.candidates.specs.declared.Candidate.{Candidate}
 use Rattle.neighbours.specs.declared.Neighbour.{Neighbour}
-use Rattle.neighbours.specs.Nearest.{noCandidate}
+use Rattle.candidates.specs.Nearest.{noCandidate}
 use Rattle.neighbours.specs.Selects.{withDistance}
 use Rattle.laws.proofs.MapLaws.{length-under}
 use Rattle.neighbours.proofs.choice.neighbours.Statement.{statement}

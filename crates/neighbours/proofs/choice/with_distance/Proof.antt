@@ -4,7 +4,7 @@ use Prim.Native.Nat.{ℕ}
 use lib.IntN.{ℤ}
 use borrow.Author.Needs.{needs}
 use Rattle.model.specs.Distance.{distanceOf}
-use Rattle.neighbours.specs.declared.Candidate.{Candidate}
+use Rattle.candidates.specs.declared.Candidate.{Candidate}
 use Rattle.neighbours.specs.declared.Neighbour.{Neighbour}
 use Rattle.neighbours.specs.Selects.{withDistance}
 use Rattle.neighbours.proofs.choice.with_distance.Statement.{statement}

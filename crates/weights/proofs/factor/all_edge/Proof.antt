@@ -11,7 +11,8 @@ use Rattle.neighbours.specs.declared.Neighbour.{Neighbour}
 use Rattle.model.specs.Influence.{influenceAt, Influence}
 use Rattle.model.specs.Weight.{allEdge}
 use Rattle.weights.specs.Seen.{seen, noNeighbour}
-use Rattle.weights.proofs.InfluenceLaws.{edge-read, edges-none, edges-more, not-edges}
+use Rattle.influence.proofs.InfluenceLaws.{edge-read}
+use Rattle.weights.proofs.EdgeLaws.{edges-none, edges-more, not-edges}
 use Rattle.weights.proofs.factor.all_edge.Statement.{statement}
 use Rattle.weights.proofs.factor.all_edge.Tie as tie
 

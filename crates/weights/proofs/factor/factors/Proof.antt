@@ -9,7 +9,7 @@ use borrow.Author.Needs.{needs}
 use Rattle.model.specs.Influence.{influenceAt}
 use Rattle.model.specs.Computed.{factorF}
 use Rattle.weights.specs.Seen.{seen, noNeighbour}
-use Rattle.weights.proofs.InfluenceLaws.{factor-read}
+use Rattle.influence.proofs.InfluenceLaws.{factor-read}
 use Rattle.weights.proofs.Places.{filled}
 use Rattle.weights.proofs.factor.factors.Statement.{statement}
 use Rattle.weights.proofs.factor.factors.Tie as tie
