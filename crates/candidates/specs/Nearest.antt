@@ -3,11 +3,11 @@ use mathlib.Core.Path.{_≡_}
 use Prim.Native.Nat.{ℕ, _≤_, _<_, min}
 use mathlib.Core.Bool.{Bool, true, false}
 use mathlib.Core.List.{List, map}
-use lib.Dec.{leb, ltb}
+use lib.Dec.{ltb}
 use lib.IntN.{pos}
 use lib.ListN.{length, take, getD}
 use Rattle.model.specs.Point.{Location, Point, State, lexical}
-use Rattle.model.specs.Distance.{squared, distanceOf}
+use Rattle.model.specs.Distance.{squared}
 use Rattle.model.specs.Choice.{ordered}
 use Rattle.candidates.specs.declared.Candidate.{Candidate}
 use Rattle.candidates.specs.declared.Candidates.{Candidates}
@@ -20,11 +20,6 @@ candidateAt s p a = record { x = a .x; y = a .y; z = a .z; squared = squared s p
 -- a comes before b: by d², then x, then y
 unfoldable pub precedesBy : Candidate → Candidate → Bool
 precedesBy a b = lexical (a .squared) (b .squared) (lexical (a .x) (b .x) (ltb (a .y) (b .y)))
-
--- D ≤ r
-unfoldable pub withinOf : ℕ → Candidate → Bool
-unfolding distanceOf
-withinOf r a = leb (distanceOf (a .squared)) r
 
 abbrev pub noCandidate : Candidate
 noCandidate = record { x = 0; y = 0; z = pos 0; squared = 0 }

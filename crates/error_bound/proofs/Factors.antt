@@ -2,7 +2,7 @@
 use mathlib.Core.Path.{_≡_, subst}
 use mathlib.Core.Bool.{false, true≢false}
 use Prim.Native.Nat.{ℕ, _-_, _*_, _≤_, _<_}
-use native.Mathlib.Nat.{mul-pos}
+use native.Mathlib.Nat.{le-trans, mul-pos}
 use native.Mathlib.Omega.{arith}
 use lib.Dec.{lit<, lit≤}
 use lib.Ieee.{binary64, div, ofBits, ofInt}
@@ -19,10 +19,11 @@ pub one-close : Close 0 0 0 oneF (whole 1)
 unfolding ofBits ofInt oneF float
 one-close = int-close 1 0 (lit≤ tt) (lit≤ tt)
 
-inverse-close : (d : ℕ) → 0 < d → d ≤ 16777216 → Close 1 24 0 (div binary64 (float 1) (float d)) (record { top = 1; bot = d })
-inverse-close d D M =
-    let a : Close 0 0 24 (float d) (whole d) = int-close d 24 (omega arith) (omega arith) in
-    subst (λ (f : Fraction). Close 1 24 0 (div binary64 (float 1) (float d)) f) (over-whole 1 d) (div-close (unfold whole in D) (int-close 1 0 (lit≤ tt) (lit≤ tt)) a tt)
+-- a fraction of two whole numbers, divided as floats
+pub part-close : (a b : ℕ) → a ≤ 9007199254740992 → 0 < b → b ≤ 281474976710656 → Close 1 48 53 (div binary64 (float a) (float b)) (record { top = a; bot = b })
+part-close a b A B b' =
+    subst (λ (f : Fraction). Close 1 48 53 (div binary64 (float a) (float b)) f) (over-whole a b)
+    (div-close (unfold whole in B) (int-close a 53 A A) (int-close b 48 (le-trans b' (lit≤ tt)) b') tt)
 
 taper-close : (r d : ℕ) → d < r → r ≤ 16777216 → Close 6 74 53 (taperF r d) (record { top = 27 * ((r - d) * (r - d)); bot = 4 * (r * (r * r)) })
 unfolding whole times taperF
@@ -38,7 +39,7 @@ taper-close r d h b =
 pub factor-close : (p : Influence) → Proper p → Close 6 74 53 (factorF p) (factor p)
 unfolding factorF factor
 factor-close coincident s = weaken (lit≤ tt) (lit≤ tt) (lit≤ tt) one-close
-factor-close (inverse d) s = weaken (lit≤ tt) (lit≤ tt) (lit≤ tt) (inverse-close d (s .0) (s .1))
+factor-close (inverse d) s = weaken (lit≤ tt) (lit≤ tt) (lit≤ tt) (part-close 1 d (lit≤ tt) (s .0) (le-trans (s .1) (lit≤ tt)))
 factor-close (tapered r d) s = taper-close r d (s .0) (s .1)
 factor-close edge s = weaken (lit≤ tt) (lit≤ tt) (lit≤ tt) zero-close
 

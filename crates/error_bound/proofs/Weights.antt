@@ -1,5 +1,5 @@
 -- A weight worked out in floats is the exact one but for 50 roundings, and one of the weights is above zero.
-use mathlib.Core.Path.{_≡_, refl, sym, subst}
+use mathlib.Core.Path.{_≡_, refl, sym}
 use mathlib.Core.Bool.{Bool, true, false, cond, _&&_, true≢false}
 use Prim.Native.Nat.{ℕ, zero, suc, _+_, _*_, _≤_, _<_}
 use native.Mathlib.Nat.{le-refl, le-trans, le-of-eq, le-add-right, lt-suc-self, lt-of-lt-of-le, one-mul, mul-pos}
@@ -11,18 +11,11 @@ use Rattle.model.specs.Influence.{Influence, isEdge}
 use Rattle.model.specs.Weight.{Neighbourhood, allEdge, factorAt, term, directional, weight}
 use Rattle.model.specs.Computed.{float, zeroF, oneF, sumF, factorAtF, termF, productF, weightF}
 use Rattle.relative_error.specs.Close.{Close}
-use Rattle.relative_error.proofs.Laws.{weaken, mul-close, div-close, add-close, int-close}
-use Rattle.relative_error.proofs.Whole.{over-whole}
+use Rattle.relative_error.proofs.Laws.{weaken, mul-close, div-close, add-close}
 use Rattle.relative_error.proofs.SumLaws.{zero-close, sum-close}
 use Rattle.relative_error.proofs.Bounds.{sum-pos}
 use Rattle.error_bound.proofs.Fair.{Fair}
-use Rattle.error_bound.proofs.Factors.{one-close, factor-close, factor-pos}
-
--- a fraction of two whole numbers, divided as floats
-pub part-close : (a b : ℕ) → a ≤ 9007199254740992 → 0 < b → b ≤ 281474976710656 → Close 1 48 53 (div binary64 (float a) (float b)) (record { top = a; bot = b })
-part-close a b A B b' =
-    subst (λ (f : Fraction). Close 1 48 53 (div binary64 (float a) (float b)) f) (over-whole a b)
-    (div-close (unfold whole in B) (int-close a 53 A A) (int-close b 48 (le-trans b' (lit≤ tt)) b') tt)
+use Rattle.error_bound.proofs.Factors.{one-close, part-close, factor-close, factor-pos}
 
 -- a sum of up to ten
 pub ten : (k d u n : ℕ) (g : ℕ → Float) (h : ℕ → Fraction) → n ≤ 10 → k + 10 ≤ 256 → d ≤ 899 → u + 10 ≤ 899 → ((i : ℕ) → i < n → Close k d u (g i) (h i))

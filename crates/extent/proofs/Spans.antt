@@ -5,14 +5,14 @@ use native.Mathlib.Nat.{not-suc-le-zero}
 use native.Mathlib.Omega.{arith}
 use mathlib.Core.List.{List, [], _∷_, _++_, map, foldl-append}
 use lib.IntN.{ℤ}
-use lib.ListN.{length, getD, length-map}
+use lib.ListN.{length, getD}
 use Rattle.model.specs.Lists.{tabulate}
 use Rattle.model.specs.Point.{Point}
 use Rattle.model.specs.Distance.{rootIn, root}
 use Rattle.model.specs.Radius.{through, xs as xsOf, ys as ysOf, area, radiusOf, initialRadius}
 use Rattle.laws.proofs.ListLaws.{tabulate-more, length-tabulate}
 use Rattle.columns.specs.Columns.{held, wrapped, pointsIn, surveyIn}
-use Rattle.columns.proofs.HeldLaws.{length-held}
+use Rattle.columns.proofs.ReadLaws.{length-points}
 use Rattle.extent.specs.Coordinates.{coordinates}
 use Rattle.laws.proofs.MapLaws.{map-tabulate}
 
@@ -55,8 +55,7 @@ module _ (xs ys : List ℕ) (zs : List ℤ) (n m : ℕ) (em : m ≡ min n 256) w
   ys-are = rw em (ap (map (λ (a : Point). a .y)) (map-tabulate wrapped _ (min n 256)) ∙ map-tabulate (λ (a : Point). a .y) _ (min n 256))
 
   number-is : length (pointsIn xs ys zs n) ≡ m
-  unfolding pointsIn
-  number-is = length-map (held xs ys zs (min n 256)) wrapped ∙ length-held xs ys zs (min n 256) ∙ sym em
+  number-is = length-points xs ys zs n ∙ sym em
 
   pub radius-in : (w h r : ℕ) → w ≡ through max (coordinates xs m) - through min (coordinates xs m)
       → h ≡ through max (coordinates ys m) - through min (coordinates ys m) → r ≡ radiusOf (w * h) m → r ≡ initialRadius (surveyIn xs ys zs n)

@@ -1,4 +1,4 @@
--- The least and the greatest value of a list of points: no value is beyond them, and they keep to what all values keep to.
+-- Values: their order; the least and the greatest of a list, which no value is beyond and which keep to what all values keep to; their range; and 256 times one.
 use mathlib.Core.Path.{_≡_, refl, sym, ap, ap₂, _∙_}
 use Prim.Native.Nat.{ℕ, suc, _+_, _*_, _≤_, _<_}
 use native.Mathlib.Omega.{arith}

@@ -6,7 +6,7 @@ use Rattle.model.specs.Answer.{answer}
 use Rattle.neighbours.specs.Chose.{Chose}
 use Rattle.mean.specs.declared.Answered.{Answered}
 
-pub record Answers (s : State) (p : Location) (r : Answered) : Type 0 where
+pub record AnswersAs (s : State) (p : Location) (r : Answered) : Type 0 where
   pub answer : r .answer ≡ answer s p
   pub right : Right s p (r .answer)
   pub chosen : Chose s p (r .chosen)

@@ -12,7 +12,7 @@ ghost use Rattle.model.specs.Answer.{answer};
 ghost use Rattle.weights.specs.Seen.{seen, Bounded};
 ghost use Rattle.columns.specs.Columns.{surveyIn};
 ghost use Rattle.mean.specs.Asked.{Asked};
-ghost use Rattle.mean.specs.Answers.{Answers};
+ghost use Rattle.mean.specs.Answers.{AnswersAs};
 use neighbours::Chosen;
 use value::least_value;
 use value::lessened;
@@ -75,7 +75,7 @@ pub fn answer_at<'a>(
     py: u16,
 ) -> Answered
     requires { ⌜ (px < 4096) × (py < 4096) × (0 < n) ⌝ }
-    ensures { λ r. ⌜ Answers (surveyIn (now (xs .entry)) (now (ys .entry)) (now (zs .entry)) n) (location px py) r ⌝ }
+    ensures { λ r. ⌜ AnswersAs (surveyIn (now (xs .entry)) (now (ys .entry)) (now (zs .entry)) n) (location px py) r ⌝ }
 {
     let c = neighbours::choose(xs, ys, zs, n, px, py);
     let a = answer_of(c, px, py);

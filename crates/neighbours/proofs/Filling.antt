@@ -10,15 +10,15 @@ use lib.Seq.{take-take, length-take-le}
 use borrow.Author.Tests.{leb-true, leb-false, le-leb, lt-leb}
 use Rattle.model.specs.Point.{Location, Point, State}
 use Rattle.model.specs.Distance.{distance}
-use Rattle.model.specs.Choice.{Choice, ordered, coincident, choiceApart, choice}
+use Rattle.model.specs.Choice.{Choice, ordered, coincident, choiceApart}
 use Rattle.laws.proofs.NearestLaws.{length-ordered, choice-otherwise}
 use Rattle.neighbours.specs.declared.Neighbour.{Neighbour}
 use Rattle.candidates.specs.declared.Candidates.{Candidates}
 use Rattle.neighbours.specs.declared.Selection.{Selection}
 use Rattle.neighbours.specs.declared.Chosen.{Chosen}
-use Rattle.neighbours.specs.Chose.{neighbourAt, Chose}
+use Rattle.neighbours.specs.Chose.{neighbourAt, Holds, Chose}
 use Rattle.candidates.specs.Nearest.{candidateAt, HoldsNearest}
-use Rattle.neighbours.specs.Selects.{Selects, withDistance, Gives}
+use Rattle.neighbours.specs.Selects.{Selects, withDistance}
 use Rattle.laws.proofs.MapLaws.{take-map}
 
 -- a test of a number cut above it
@@ -36,7 +36,7 @@ module _ (s : State) (p : Location) where
 
   pub gives-selected : (b : Candidates) (k : Choice) (t : Selection) (a : List Neighbour) → HoldsNearest s p b → Selects s p k t → t .count ≤ 10
       → take (t .count) a ≡ map withDistance (take (t .count) (b .items))
-      → Gives s p k (record { items = a; count = t .count; radius = t .radius; few = leb (b .count) 4 })
+      → Holds s p k (record { items = a; count = t .count; radius = t .radius; few = leb (b .count) 4 })
   gives-selected b k t a h g few e =
       let n : length (ordered s p) ≡ length (s .points) = length-ordered s p in
       let m : b .count ≡ min 11 (length (s .points)) = h .count in
@@ -54,8 +54,5 @@ module _ (s : State) (p : Location) where
         few = ap (λ (i : ℕ). leb i 4) m ∙ leb-min 11 (length (s .points)) 4 (omega arith);
       }
 
-  pub chose-whole : (c : Chosen) → Gives s p (choice s p) c → Chose s p c
-  chose-whole c g = record { size = g .size; count = g .count; items = g .items; radius = g .radius; few = g .few }
-
-  pub chose-apart : (c : Chosen) → coincident s p ≡ false → Gives s p (choiceApart s p) c → Chose s p c
-  chose-apart c e g = chose-whole c (rw (choice-otherwise s p e) g)
+  pub chose-apart : (c : Chosen) → coincident s p ≡ false → Holds s p (choiceApart s p) c → Chose s p c
+  chose-apart c e g = rw (choice-otherwise s p e) g

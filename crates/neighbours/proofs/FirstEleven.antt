@@ -19,8 +19,8 @@ use Rattle.laws.proofs.ChoiceLaws.{squared-zero, squared-apart}
 use Rattle.laws.proofs.NearestLaws.{length-ordered, within-first, within-le, choice-coincident, rule-few, rule-four, rule-some, rule-ten}
 use Rattle.candidates.specs.declared.Candidate.{Candidate}
 use Rattle.candidates.specs.declared.Candidates.{Candidates}
-use Rattle.candidates.specs.Nearest.{candidateAt, withinOf, noCandidate, listOf, HoldsNearest}
-use Rattle.neighbours.specs.Selects.{Selects}
+use Rattle.candidates.specs.Nearest.{candidateAt, noCandidate, listOf, HoldsNearest}
+use Rattle.neighbours.specs.Selects.{Selects, withinOf}
 use Rattle.laws.proofs.MapLaws.{take-map, getD-map, count-map}
 
 abbrev noPoint : Point

@@ -5,7 +5,7 @@ use mathlib.Core.List.{map}
 use lib.ListN.{length, take}
 use Rattle.model.specs.Point.{Location, Point, State}
 use Rattle.model.specs.Distance.{squared, distance}
-use Rattle.model.specs.Choice.{choice, few}
+use Rattle.model.specs.Choice.{Choice, choice, few}
 use Rattle.neighbours.specs.declared.Neighbour.{Neighbour}
 use Rattle.neighbours.specs.declared.Chosen.{Chosen}
 
@@ -14,9 +14,14 @@ unfoldable pub neighbourAt : State → Location → Point → Neighbour
 unfolding squared distance
 neighbourAt s p a = record { x = a .x; y = a .y; z = a .z; squared = squared s p a; distance = distance s p a }
 
-pub record Chose (s : State) (p : Location) (c : Chosen) : Type 0 where
+-- c holds the choice k
+pub record Holds (s : State) (p : Location) (k : Choice) (c : Chosen) : Type 0 where
   pub size : c .count ≤ 10
-  pub count : c .count ≡ length (choice s p .points)
-  pub items : take (c .count) (c .items) ≡ map (neighbourAt s p) (choice s p .points)
-  pub radius : c .radius ≡ choice s p .radius
+  pub count : c .count ≡ length (k .points)
+  pub items : take (c .count) (c .items) ≡ map (neighbourAt s p) (k .points)
+  pub radius : c .radius ≡ k .radius
   pub few : c .few ≡ few s
+
+-- the choice of s at p
+abbrev pub Chose : State → Location → Chosen → Type 0
+Chose s p c = Holds s p (choice s p) c

@@ -7,8 +7,9 @@ ghost use Rattle.model.specs.Lists.{count as countOf};
 ghost use Rattle.model.specs.Point.{State, Location};
 ghost use Rattle.model.specs.Radius.{initialRadius};
 ghost use Rattle.model.specs.Choice.{Choice, coincident as coincidentAt, choiceApart};
-ghost use Rattle.candidates.specs.Nearest.{listOf, withinOf, HoldsNearest};
-ghost use Rattle.neighbours.specs.Selects.{Selects, withDistance, Gives};
+ghost use Rattle.candidates.specs.Nearest.{listOf, HoldsNearest};
+ghost use Rattle.neighbours.specs.Selects.{Selects, withDistance, withinOf};
+ghost use Rattle.neighbours.specs.Chose.{Holds};
 use crate::Chosen;
 use crate::Neighbour;
 use crate::Selection;
@@ -121,7 +122,7 @@ fn neighbours(items: [Candidate; 11], k: usize) -> [Neighbour; 10]
 // The chosen ones of the nearest.
 pub(crate) fn filled(b: Candidates, t: Selection) -> Chosen
     requires { ⌜ t .count ≤ 10 ⌝ }
-    ensures { λ r. ⌜ ((s : State) (p : Location) (c : Choice) → HoldsNearest s p b → Selects s p c t → Gives s p c r) ⌝ }
+    ensures { λ r. ⌜ ((s : State) (p : Location) (c : Choice) → HoldsNearest s p b → Selects s p c t → Holds s p c r) ⌝ }
 {
     let n = b.count;
     let items = b.items;
@@ -137,7 +138,7 @@ pub(crate) fn filled(b: Candidates, t: Selection) -> Chosen
 // Rules 2 to 5: the choice where no point is at the location.
 pub(crate) fn apart(b: Candidates, r0: u32) -> Chosen
     requires { ⌜ b .count ≤ 11 ⌝ }
-    ensures { λ r. ⌜ ((s : State) (p : Location) → HoldsNearest s p b → r0 ≡ initialRadius s → Gives s p (choiceApart s p) r) ⌝ }
+    ensures { λ r. ⌜ ((s : State) (p : Location) → HoldsNearest s p b → r0 ≡ initialRadius s → Holds s p (choiceApart s p) r) ⌝ }
 {
     let t = by_count(b, r0);
     filled(b, t)

@@ -5,6 +5,7 @@ use native.Mathlib.Nat.{mul-le-mul}
 use native.Mathlib.Omega.{arith}
 use lib.IntN.{ℤ}
 use borrow.Author.Needs.{needs}
+use Rattle.laws.proofs.RootLaws.{sq-le}
 use Rattle.model.specs.Point.{State, location, point}
 use Rattle.model.specs.Distance.{gap, squared}
 use Rattle.columns.specs.Columns.{wrapped}
@@ -12,9 +13,6 @@ use Rattle.candidates.specs.declared.Candidate.{Candidate}
 use Rattle.candidates.specs.Nearest.{candidateAt}
 use Rattle.candidates.proofs.candidate_at.Statement.{statement}
 use Rattle.candidates.proofs.candidate_at.Tie as tie
-
-square : (a : ℕ) → a ≤ 4095 → a * a ≤ 4095 * 4095
-square a h = mul-le-mul h h
 
 made : (s : State) (px py x y a b d e : ℕ) (w z : ℤ) → a ≡ x % 4096 → b ≡ y % 4096 → d ≡ gap px a → e ≡ gap py b → w ≡ z
     → _≡_ {A = Candidate} (record { x = a; y = b; z = w; squared = d * d + e * e }) (candidateAt s (location px py) (wrapped (point x y z)))
@@ -40,22 +38,22 @@ gap-requires-2 : tie.Need-gap-requires-2
 gap-requires-2 c κs = search needs
 
 mul-t10 : tie.Need-mul-t10
-mul-t10 c = let h : c .before .gap .result ≤ 4095 = omega arith in omega (arith, square _ h)
+mul-t10 c = let h : c .before .gap .result ≤ 4095 = omega arith in omega (arith, sq-le h)
 
 mul-t11 : tie.Need-mul-t11
-mul-t11 c = let h : c .gap2 .result ≤ 4095 = omega arith in omega (arith, square _ h)
+mul-t11 c = let h : c .gap2 .result ≤ 4095 = omega arith in omega (arith, sq-le h)
 
 add-t12 : tie.Need-add-t12
 add-t12 c =
     let g : c .before .gap .result ≤ 4095 = omega arith in
     let h : c .gap2 .result ≤ 4095 = omega arith in
-    omega (arith, square _ g, square _ h)
+    omega (arith, sq-le g, sq-le h)
 
 cast-t13 : tie.Need-cast-t13
 cast-t13 c =
     let g : c .before .gap .result ≤ 4095 = omega arith in
     let h : c .gap2 .result ≤ 4095 = omega arith in
-    omega (arith, square _ g, square _ h)
+    omega (arith, sq-le g, sq-le h)
 
 returns : tie.Need-returns
 returns c =

@@ -2,7 +2,7 @@
 use mathlib.Core.Path.{sym, _∙_}
 use borrow.Author.Needs.{needs}
 use Rattle.neighbours.proofs.FirstEleven.{selects-first}
-use Rattle.neighbours.proofs.Filling.{chose-whole, chose-apart}
+use Rattle.neighbours.proofs.Filling.{chose-apart}
 use Rattle.neighbours.proofs.choose.Statement.{statement}
 use Rattle.neighbours.proofs.choose.Tie as tie
 
@@ -20,7 +20,7 @@ returns c =
     let d = c .before .before in
     let h = d .before .nearest .ensures .0 in
     let e = sym (d .coincident .ensures _ _ h) ∙ c .before .if1 .taken in
-    (chose-whole _ _ _ (c .filled .ensures _ _ _ h (selects-first _ _ _ h e)), d .before .nearest .ensures .1)
+    (c .filled .ensures _ _ _ h (selects-first _ _ _ h e), d .before .nearest .ensures .1)
 
 initial-radius-requires : tie.Need-initial-radius-requires
 initial-radius-requires c κs = search needs

@@ -13,9 +13,10 @@ use borrow.Author.Needs.{needs}
 use borrow.Author.Tests.{le-leb, lt-leb}
 use Rattle.model.specs.Lists.{count}
 use Rattle.model.specs.Distance.{distanceOf}
-use Rattle.laws.proofs.RootLaws.{distance-le-iff}
+use Rattle.laws.proofs.RootLaws.{sq-le, distance-le-iff}
 use Rattle.candidates.specs.declared.Candidate.{Candidate}
-use Rattle.candidates.specs.Nearest.{withinOf, noCandidate}
+use Rattle.candidates.specs.Nearest.{noCandidate}
+use Rattle.neighbours.specs.Selects.{withinOf}
 use Rattle.laws.proofs.MapLaws.{length-under, count-last}
 use Rattle.neighbours.proofs.choice.count_within.Statement.{statement}
 use Rattle.neighbours.proofs.choice.count_within.Tie as tie
@@ -25,9 +26,6 @@ Inv-loop r0 n items r bound k₀ i₀ k i = (i ≤ n) × (k ≤ i) × (k ≡ cou
 
 abbrev μ-loop : tie.MeasureT-loop
 μ-loop r0 n items r bound k₀ i₀ k i = n - i
-
-square : (a : ℕ) → a < 2 ^ 32 → a * a ≤ 4294967295 * 4294967295
-square a h = let g : a ≤ 4294967295 = omega arith in mul-le-mul g g
 
 module _ (r i k : ℕ) (l : List Candidate) (was : k ≡ count (withinOf r) (take i l)) (lt : i < length l) where
   counted : (t : Bool) → withinOf r (getD l i noCandidate) ≡ t → count (withinOf r) (take (i + 1) l) ≡ cond t (k + 1) k
@@ -47,13 +45,13 @@ module _ (r i k : ℕ) (l : List Candidate) (was : k ≡ count (withinOf r) (tak
       e ∙ sym (counted false (lt-leb (distanceOf (getD l i noCandidate .squared)) r d))
 
 mul-bound : tie.Need-mul-bound Inv-loop μ-loop
-mul-bound c = let f : c .before .args .r0 < 2 ^ 32 = omega arith in omega (arith, square _ f)
+mul-bound c = let f : c .before .args .r0 ≤ 4294967295 = omega arith in omega (arith, sq-le f)
 
 mul-bound-2 : tie.Need-mul-bound-2 Inv-loop μ-loop
 mul-bound-2 c = omega arith
 
 add-bound : tie.Need-add-bound Inv-loop μ-loop
-add-bound c = let f : c .before .args .r0 < 2 ^ 32 = omega arith in omega (arith, square _ f)
+add-bound c = let f : c .before .args .r0 ≤ 4294967295 = omega arith in omega (arith, sq-le f)
 
 loop-holds : tie.Need-loop-holds Inv-loop μ-loop
 unfolding count
