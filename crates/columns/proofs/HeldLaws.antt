@@ -37,9 +37,12 @@ held-set xs ys zs i x y z a b c =
     kept k n = rw (getD-set-other xs i k x 0 n, getD-set-other ys i k y 0 n, getD-set-other zs i k z (pos 0) n)
 
 -- points in the domain are read as they stand
+pub wrapped-one : (a : Point) → a .x < 4096 → a .y < 4096 → wrapped a ≡ a
+wrapped-one a h g =
+    let p : a .x % 4096 ≡ a .x = omega arith in
+    let q : a .y % 4096 ≡ a .y = omega arith in
+    rw (p, q)
+
 pub wrapped-same : (l : List Point) → All (λ a. (a .x < 4096) × (a .y < 4096)) l → map wrapped l ≡ l
 wrapped-same [] h = refl
-wrapped-same (a ∷ l) h =
-    let p : a .x % 4096 ≡ a .x = omega (arith, h .0 .0) in
-    let q : a .y % 4096 ≡ a .y = omega (arith, h .0 .1) in
-    rw (p, q, wrapped-same l (h .1))
+wrapped-same (a ∷ l) h = rw (wrapped-one a (h .0 .0) (h .0 .1), wrapped-same l (h .1))

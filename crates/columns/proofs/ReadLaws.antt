@@ -16,13 +16,20 @@ use Rattle.model.specs.Lists.{All}
 use Rattle.model.specs.Point.{Point, point, inDomain, inRange}
 use Rattle.model.specs.Invariant.{Sound}
 use Rattle.laws.proofs.ValueLaws.{byte-range}
-use Rattle.laws.proofs.ListLaws.{all-map, all-tabulate}
+use Rattle.laws.proofs.ListLaws.{all-map, all-tabulate, getD-tabulate}
+use Rattle.laws.proofs.MapLaws.{map-tabulate}
 use Rattle.columns.specs.Columns.{held, wrapped, pointsIn}
 use Rattle.columns.proofs.HeldLaws.{length-held}
 
 pub length-points : (xs ys : List ℕ) (zs : List ℤ) (n : ℕ) → length (pointsIn xs ys zs n) ≡ min n 256
 unfolding pointsIn
 length-points xs ys zs n = length-map (held xs ys zs (min n 256)) wrapped ∙ length-held xs ys zs (min n 256)
+
+-- a point as it is read
+pub points-at : (xs ys : List ℕ) (zs : List ℤ) (n i : ℕ) (d : Point) → i < min n 256
+    → getD (pointsIn xs ys zs n) i d ≡ wrapped (point (getD xs i 0) (getD ys i 0) (getD zs i (pos 0)))
+unfolding pointsIn held
+points-at xs ys zs n i d h = rw (map-tabulate, getD-tabulate)
 
 wrapped-location : (a : Point) → inDomain (wrapped a .x) (wrapped a .y) ≡ true
 wrapped-location a =

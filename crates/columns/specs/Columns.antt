@@ -1,4 +1,5 @@
 -- The points that three arrays and a count hold.
+use mathlib.Core.Path.{_≡_}
 use Prim.Native.Nat.{ℕ, _%_, min}
 use mathlib.Core.List.{List, map}
 use lib.IntN.{ℤ, pos}
@@ -23,3 +24,7 @@ pointsIn xs ys zs n = map wrapped (held xs ys zs (min n 256))
 -- the survey that they are
 abbrev pub surveyIn : List ℕ → List ℕ → List ℤ → ℕ → State
 surveyIn xs ys zs n = surveyOf (pointsIn xs ys zs n)
+
+-- nothing in them is read otherwise than it stands
+abbrev pub AsHeld : List ℕ → List ℕ → List ℤ → ℕ → Type 0
+AsHeld xs ys zs n = pointsIn xs ys zs n ≡ held xs ys zs n

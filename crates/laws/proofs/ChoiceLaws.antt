@@ -4,18 +4,17 @@ use mathlib.Core.Path.{_≡_, refl, sym, _∙_}
 use mathlib.Core.Logic.{_⊎_, inl, inr, _↔_}
 use Prim.Native.Nat.{ℕ, zero, suc, _+_, _*_, _<_}
 use native.Mathlib.Omega.{arith}
-use mathlib.Core.Bool.{Bool, true, false, cond, _||_, or-assoc, or-comm, false≢true, and-eq-true-iff}
+use mathlib.Core.Bool.{Bool, true, false, cond, _||_, or-assoc, or-comm, false≢true}
 use mathlib.Core.List.{List, [], _∷_}
-use lib.Dec.{eqb}
 use lib.ListN.{length, take}
-use borrow.Author.Tests.{eqb-true, eq-eqb}
+use borrow.Author.Tests.{eq-eqb}
 use Rattle.model.specs.Lists.{count, Pairs}
 use Rattle.model.specs.Point.{Location, Point, State, at, precedes}
 use Rattle.model.specs.Distance.{gap, squared}
 use Rattle.model.specs.Order.{insert, sortOnto, sort}
 use Rattle.model.specs.Choice.{Choice, nearer, ordered, choiceApart, startsAt, coincident, choice}
 use Rattle.model.specs.Calls.{taken}
-use Rattle.laws.proofs.PrecedesLaws.{lexical-true, less-lexical, lexical-trans, lexical-self, precedes-trans, precedes-self}
+use Rattle.laws.proofs.PrecedesLaws.{lexical-true, less-lexical, lexical-trans, lexical-self, precedes-trans, precedes-self, at-same}
 use Rattle.laws.proofs.OrderLaws.{sort-settled, sort-count}
 
 squares-zero : (m n : ℕ) → m * m + n * n ≡ 0 → (m ≡ 0) × (n ≡ 0)
@@ -45,9 +44,9 @@ module _ (s : State) (p : Location) where
   squared-zero a = (
     (λ h. let g = squares-zero (gap (p .x) (a .x)) (gap (p .y) (a .y)) h in
         rw (eq-eqb (a .x) (p .x) (omega arith), eq-eqb (a .y) (p .y) (omega arith))),
-    λ h. let g = and-eq-true-iff (eqb (a .x) (p .x)) (eqb (a .y) (p .y)) .0 h in
-        let ex : gap (p .x) (a .x) ≡ 0 = omega (arith, eqb-true (a .x) (p .x) (g .0)) in
-        let ey : gap (p .y) (a .y) ≡ 0 = omega (arith, eqb-true (a .y) (p .y) (g .1)) in
+    λ h. let g = at-same (p .x) (p .y) a h in
+        let ex : gap (p .x) (a .x) ≡ 0 = omega arith in
+        let ey : gap (p .y) (a .y) ≡ 0 = omega arith in
         rw (ex, ey),
   )
 

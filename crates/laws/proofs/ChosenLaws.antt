@@ -54,6 +54,10 @@ radius-most a n h k =
     let m : 0 < 355 * n = omega arith in
     root-le-iff q 16777216 .1 (below q (355 * n) a (omega arith) (le-div-iff-mul-le m .0 (le-refl q)) k)
 
+pub apart-points : (x y : ℕ) (l : List Point) → taken x y l ≡ false → All (λ a. at x y a ≡ false) l
+apart-points x y [] h = tt
+apart-points x y (a ∷ l) h = let e = or-false (at x y a) (taken x y l) h in (e .0, apart-points x y l (e .1))
+
 module _ (s : State) (p : Location) where
   pub ordered-all : (P : Point → Type 0) → All P (s .points) → All P (ordered s p)
   unfolding ordered
@@ -119,17 +123,13 @@ module _ (s : State) (p : Location) where
       (λ l. taken-most 4 (omega arith)) (λ k l. taken-most (within s p) l) (λ l. taken-most 10 (omega arith)))
 
   -- where no point is at p, no chosen one is
-  apart-points : (l : List Point) → taken (p .x) (p .y) l ≡ false → All (λ a. at (p .x) (p .y) a ≡ false) l
-  apart-points [] h = tt
-  apart-points (a ∷ l) h = let e = or-false (at (p .x) (p .y) a) (taken (p .x) (p .y) l) h in (e .0, apart-points l (e .1))
-
   pub chosen-apart : coincident s p ≡ false → All (λ a. 0 < distance s p a) (choice s p .points)
   unfolding distance
   chosen-apart h =
       all-imp (λ a. at (p .x) (p .y) a ≡ false) (λ a. 0 < distance s p a)
       (λ a e. distance-pos (squared s p a) (squared-apart s p a e))
       (choice s p .points)
-      (chosen-all (λ a. at (p .x) (p .y) a ≡ false) (apart-points (s .points) (sym (coincident-is s p) ∙ h)))
+      (chosen-all (λ a. at (p .x) (p .y) a ≡ false) (apart-points (p .x) (p .y) (s .points) (sym (coincident-is s p) ∙ h)))
 
   module _ (domain : (p .x < 4096) × (p .y < 4096)) where
     pub point-most : (a : Point) → Inside a → distance s p a ≤ 16777216

@@ -2,6 +2,7 @@
 pub mod Tests
 pub mod ListLaws
 pub mod MapLaws
+pub mod Insertions
 pub mod IntLaws
 pub mod DiffLaws
 pub mod ValueLaws
@@ -19,3 +20,5 @@ pub mod Numbers
 pub mod TrailerLaws
 pub mod RecordLaws
 pub mod RoundTrip
+pub mod CallLaws
+pub mod HistoryInvariant

@@ -12,6 +12,10 @@ module _ {A : Type 0} where
   all-imp P Q f [] h = tt
   all-imp P Q f (a ∷ l) h = (f a (h .0), all-imp P Q f l (h .1))
 
+  pub all-any : (P : A → Type 0) → ((a : A) → P a) → (l : List A) → All P l
+  all-any P f [] = tt
+  all-any P f (a ∷ l) = (f a, all-any P f l)
+
   pub all-both : (P Q R : A → Type 0) → ((a : A) → P a → Q a → R a) → (l : List A) → All P l → All Q l → All R l
   all-both P Q R f [] h g = tt
   all-both P Q R f (a ∷ l) h g = (f a (h .0) (g .0), all-both P Q R f l (h .1) (g .1))
@@ -57,6 +61,17 @@ module _ {A : Type 0} where
   pub tabulate-more : (f : ℕ → A) (n : ℕ) → tabulate f (n + 1) ≡ tabulate f n ++ (f n ∷ [])
   unfolding tabulate
   tabulate-more f n = rw add-one
+
+  -- the first value in front
+  pub tabulate-front : (f : ℕ → A) (n : ℕ) → tabulate f (suc n) ≡ f 0 ∷ tabulate (λ i. f (suc i)) n
+  unfolding tabulate
+  tabulate-front f zero = refl
+  tabulate-front f (suc n) = rw (tabulate-front f n)
+
+  pub getD-tabulate : (f : ℕ → A) (n i : ℕ) (d : A) → i < n → getD (tabulate f n) i d ≡ f i
+  getD-tabulate f zero i d h = absurd (omega arith)
+  getD-tabulate f (suc n) zero d h = rw (tabulate-front f n)
+  getD-tabulate f (suc n) (suc i) d h = rw (tabulate-front f n) (getD-tabulate (λ k. f (suc k)) n i d (omega arith))
 
   pub length-tabulate : (f : ℕ → A) (n : ℕ) → length (tabulate f n) ≡ n
   unfolding tabulate

@@ -5,7 +5,7 @@ use native.Mathlib.Nat.{le-of-suc-le-suc, not-suc-le-zero}
 use native.Mathlib.Omega.{arith}
 use mathlib.Core.Bool.{Bool, true, false, cond}
 use mathlib.Core.List.{List, [], _∷_, _++_, map, map-append}
-use lib.ListN.{length, take, getD, length-map}
+use lib.ListN.{length, take, drop, getD, set, length-map}
 use Rattle.model.specs.Lists.{tabulate, count}
 
 -- an array of structs is known by a map of it
@@ -17,6 +17,16 @@ module _ {A B : Type 0} (f : A → B) where
   take-map zero l = refl
   take-map (suc k) [] = refl
   take-map (suc k) (a ∷ l) = ap {B = List B} (λ r. f a ∷ r) (take-map k l)
+
+  pub drop-map : (k : ℕ) (l : List A) → drop k (map f l) ≡ map f (drop k l)
+  drop-map zero l = refl
+  drop-map (suc k) [] = refl
+  drop-map (suc k) (a ∷ l) = drop-map k l
+
+  pub map-set : (l : List A) (i : ℕ) (e : A) → map f (set l i e) ≡ set (map f l) i (f e)
+  map-set [] i e = refl
+  map-set (a ∷ l) zero e = refl
+  map-set (a ∷ l) (suc i) e = ap {B = List B} (λ r. f a ∷ r) (map-set l i e)
 
   pub getD-map : (l : List A) (i : ℕ) (d : B) (e : A) → i < length l → getD (map f l) i d ≡ f (getD l i e)
   getD-map [] i d e h = absurd (not-suc-le-zero h)

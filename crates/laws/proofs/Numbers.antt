@@ -1,21 +1,25 @@
 -- Numbers written as bytes, or in two's complement, are read back, and bytes that were read are written back.
 use mathlib.Core.Path.{_≡_, refl, ap, ap₂}
-use Prim.Native.Nat.{ℕ, suc, _+_, _-_, _*_, _/_, _%_, _≤_, _<_}
+use Prim.Native.Nat.{ℕ, suc, _+_, _-_, _*_, _/_, _%_, _<_}
 use native.Mathlib.Omega.{arith}
-use mathlib.Core.Bool.{Bool, true, false, and-eq-true-iff}
+use mathlib.Core.Bool.{Bool, true, false}
 use mathlib.Core.List.{[], _∷_, _++_}
-use lib.Dec.{ltb, leb}
+use lib.Dec.{ltb}
 use lib.IntN.{ℤ, pos, negsuc}
-use borrow.Author.Tests.{ltb-true, ltb-false, leb-true, lt-ltb, le-ltb, le-leb}
+use lib.Signed.{mag}
+use borrow.Author.Tests.{ltb-true, ltb-false, lt-ltb, le-ltb}
+use Rattle.model.specs.Lists.{Bytes}
 use Rattle.model.specs.Bytes.{word, bytes2, bytes4, complement, signed}
-use Rattle.model.specs.Point.{inRange}
 
--- two bytes hold a number's last 16 bits, four a whole number below 2^32
+-- two bytes hold a number's last 16 bits, four its last 32
 pub word-back : (n : ℕ) → word (n / 256 % 256) (n % 256) ≡ n % 65536
 word-back n = omega arith
 
-pub long-back : (n : ℕ) → n < 4294967296 → 65536 * word (n / 65536 / 256 % 256) (n / 65536 % 256) + word (n / 256 % 256) (n % 256) ≡ n
-long-back n h = omega arith
+pub long-back : (n : ℕ) → 65536 * word (n / 65536 / 256 % 256) (n / 65536 % 256) + word (n / 256 % 256) (n % 256) ≡ n % 4294967296
+long-back n = omega arith
+
+pub bytes4-bytes : (n : ℕ) → Bytes (bytes4 n)
+bytes4-bytes n = (omega arith, (omega arith, (omega arith, (omega arith, tt))))
 
 pub bytes2-word : (n a b : ℕ) → a < 256 → b < 256 → n % 65536 ≡ word a b → bytes2 n ≡ a ∷ b ∷ []
 bytes2-word n a b ha hb e =
@@ -29,24 +33,28 @@ bytes4-long n a b c d ha hb hc hd e =
     let e₂ : bytes2 n ≡ c ∷ d ∷ [] = bytes2-word n c d hc hd (omega arith) in
     ap₂ _++_ e₁ e₂
 
-pub signed-back : (z : ℤ) → inRange z ≡ true → signed 128 (complement 128 z) ≡ z
-signed-back (pos n) h = rw (lt-ltb n 128 (omega (arith, leb-true n 127 h)))
-signed-back (negsuc n) h =
-    let k : n ≤ 127 = leb-true n 127 (and-eq-true-iff (leb n 127) true .0 h .0) in
-    let e : 256 - suc (256 - suc n) ≡ n = omega arith in
-    rw (le-ltb (256 - suc n) 128 (omega arith)) (ap negsuc e)
+-- two's complement among h + h numbers, of the values from -h to h - 1
+module _ (h : ℕ) where
+  pub complement-below : (z : ℤ) → mag z < h → complement h z < h + h
+  complement-below (pos n) k = omega arith
+  complement-below (negsuc n) k = omega arith
 
-module _ (n : ℕ) (h : n < 256) where
-  pub complement-back : complement 128 (signed 128 n) ≡ n
-  complement-back = go (ltb n 128) refl
+  pub signed-back : (z : ℤ) → mag z < h → signed h (complement h z) ≡ z
+  signed-back (pos n) k = rw (lt-ltb n h k)
+  signed-back (negsuc n) k =
+      let e : h + h - suc (h + h - suc n) ≡ n = omega arith in
+      rw (le-ltb (h + h - suc n) h (omega arith)) (ap negsuc e)
+
+  pub complement-back : (n : ℕ) → n < h + h → complement h (signed h n) ≡ n
+  complement-back n k = go (ltb n h) refl
     where
-      go : (t : Bool) → ltb n 128 ≡ t → complement 128 (signed 128 n) ≡ n
+      go : (t : Bool) → ltb n h ≡ t → complement h (signed h n) ≡ n
       go true e = rw e
       go false e = rw e (omega arith)
 
-  pub signed-range : inRange (signed 128 n) ≡ true
-  signed-range = go (ltb n 128) refl
+  pub signed-below : (n : ℕ) → 0 < h → mag (signed h n) < h
+  signed-below n k = go (ltb n h) refl
     where
-      go : (t : Bool) → ltb n 128 ≡ t → inRange (signed 128 n) ≡ true
-      go true e = rw (e, le-leb n 127 (omega (arith, ltb-true n 128 e)))
-      go false e = rw (e, le-leb (256 - suc n) 127 (omega (arith, ltb-false n 128 e)))
+      go : (t : Bool) → ltb n h ≡ t → mag (signed h n) < h
+      go true e = rw e (ltb-true n h e)
+      go false e = rw e (omega (arith, ltb-false n h e))

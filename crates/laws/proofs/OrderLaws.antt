@@ -6,7 +6,8 @@ use mathlib.Core.Bool.{Bool, true, false, cond, false≢true}
 use mathlib.Core.List.{List, [], _∷_}
 use Rattle.model.specs.Lists.{count, All, Pairs}
 use Rattle.model.specs.Order.{insert, sortOnto, sort}
-use Rattle.laws.proofs.ListLaws.{all-imp}
+use Rattle.laws.proofs.Tests.{cond-cases}
+use Rattle.laws.proofs.ListLaws.{all-imp, all-any}
 
 -- one more where a test passes
 abbrev more : Bool → ℕ → ℕ
@@ -43,7 +44,7 @@ module _ {A : Type 0} (before : A → A → Bool) where
   unfolding sort count
   sort-count f l = omega (arith, onto-count f [] l)
 
-  all-insert : (P : A → Type 0) (a : A) (l : List A) → P a → All P l → All P (insert before a l)
+  pub all-insert : (P : A → Type 0) (a : A) (l : List A) → P a → All P l → All P (insert before a l)
   unfolding insert
   all-insert P a [] p h = (p, tt)
   all-insert P a (b ∷ l) p h = go (before a b) (all-insert P a l p (h .1))
@@ -62,6 +63,16 @@ module _ {A : Type 0} (before : A → A → Bool) where
   unfolding sort
   sort-all P l h = onto-all P [] l tt h
 
+  -- a fact of every two elements is kept: the test gives it of a and what follows a, and it is known of what a does not come before
+  pub insert-pairs : (R : A → A → Type 0) → ((a b : A) → before a b ≡ true → R a b) → ((a b c : A) → before a b ≡ true → R b c → R a c)
+      → (a : A) (l : List A) → All (λ b. before a b ≡ false → R b a) l → Pairs R l → Pairs R (insert before a l)
+  unfolding insert
+  insert-pairs R first on a [] g h = (tt, tt)
+  insert-pairs R first on a (b ∷ l) g h =
+      cond-cases (Pairs R) (before a b)
+      (λ e. ((first a b e, all-imp (R b) (R a) (λ c r. on a b c e r) l (h .0)), h))
+      (λ e. (all-insert (R b) a l (g .0 e) (h .0), insert-pairs R first on a l (g .1) (h .1)))
+
   module _ (self : (a : A) → before a a ≡ false) (trans : (a b c : A) → before a b ≡ true → before b c ≡ true → before a c ≡ true) where
     abbrev Settled : A → A → Type 0
     Settled a b = before b a ≡ false
@@ -75,13 +86,7 @@ module _ {A : Type 0} (before : A → A → Bool) where
         go false e = refl
 
     insert-settled : (a : A) (l : List A) → Pairs Settled l → Pairs Settled (insert before a l)
-    unfolding insert
-    insert-settled a [] h = (tt, tt)
-    insert-settled a (b ∷ l) h = go (before a b) refl (insert-settled a l (h .1))
-      where
-        go : (t : Bool) → before a b ≡ t → Pairs Settled (insert before a l) → Pairs Settled (cond t (a ∷ b ∷ l) (b ∷ insert before a l))
-        go true e ih = ((settled-on a b b e (self b), all-imp (Settled b) (Settled a) (λ c q. settled-on a b c e q) l (h .0)), h)
-        go false e ih = (all-insert (Settled b) a l e (h .0), ih)
+    insert-settled a l h = insert-pairs Settled (λ b c e. settled-on b c c e (self c)) settled-on a l (all-any _ (λ b e. e) l) h
 
     onto-settled : (d l : List A) → Pairs Settled d → Pairs Settled (sortOnto before d l)
     unfolding sortOnto

@@ -1,12 +1,12 @@
--- Lexical order: what it says in numbers, and that it is strict and transitive; of points by x, then y.
-use mathlib.Core.Path.{_≡_, refl, _∙_}
+-- Lexical order: what it says in numbers, and that it is strict, transitive and total; of points by x, then y.
+use mathlib.Core.Path.{_≡_, refl, sym, _∙_}
 use mathlib.Core.Logic.{_⊎_, inl, inr}
 use Prim.Native.Nat.{ℕ, _<_}
 use native.Mathlib.Omega.{arith}
-use mathlib.Core.Bool.{Bool, true, false, _&&_, _||_, false≢true}
+use mathlib.Core.Bool.{Bool, true, false, _&&_, _||_, true≢false, false≢true, and-eq-true-iff}
 use lib.Dec.{ltb, eqb}
-use borrow.Author.Tests.{ltb-true, lt-ltb, le-ltb, eqb-true, eq-eqb, ne-eqb}
-use Rattle.model.specs.Point.{Point, lexical, precedes}
+use borrow.Author.Tests.{ltb-true, ltb-false, lt-ltb, le-ltb, eqb-true, eqb-false, eq-eqb, ne-eqb}
+use Rattle.model.specs.Point.{Point, at, lexical, precedes}
 
 pub lexical-true : (m n : ℕ) (t : Bool) → lexical m n t ≡ true → (m < n) ⊎ ((m ≡ n) × (t ≡ true))
 lexical-true m n t h = go (ltb m n) (eqb m n) refl refl h
@@ -41,6 +41,15 @@ lexical-trans m n k s t u rest p q = go (lexical-true m n s p) (lexical-true n k
 pub lexical-self : (m : ℕ) (t : Bool) → t ≡ false → lexical m m t ≡ false
 lexical-self m t h = tie-lexical m m t refl ∙ h
 
+-- where the rest decides one way or the other, so does the whole
+lexical-other : (m n : ℕ) (t u : Bool) → (m ≡ n → t ≡ false → u ≡ true) → lexical m n t ≡ false → lexical n m u ≡ true
+lexical-other m n t u rest h = go (ltb m n) (eqb m n) refl refl h
+  where
+    go : (a b : Bool) → ltb m n ≡ a → eqb m n ≡ b → a || (b && t) ≡ false → lexical n m u ≡ true
+    go true b ea eb h = absurd (true≢false h)
+    go false true ea eb h = let e = eqb-true m n eb in equal-lexical n m u (omega arith) (rest e h)
+    go false false ea eb h = less-lexical n m u (omega (arith, ltb-false m n ea, eqb-false m n eb))
+
 less-trans : (m n k : ℕ) → ltb m n ≡ true → ltb n k ≡ true → ltb m k ≡ true
 less-trans m n k p q = lt-ltb m k (omega (arith, ltb-true m n p, ltb-true n k q))
 
@@ -50,3 +59,15 @@ precedes-trans a b c =
 
 pub precedes-self : (a : Point) → precedes a a ≡ false
 precedes-self a = lexical-self (a .x) (ltb (a .y) (a .y)) (le-ltb (a .y) (a .y) (omega arith))
+
+pub at-same : (x y : ℕ) (a : Point) → at x y a ≡ true → (a .x ≡ x) × (a .y ≡ y)
+at-same x y a h = let t = and-eq-true-iff (eqb (a .x) x) (eqb (a .y) y) .0 h in (eqb-true (a .x) x (t .0), eqb-true (a .y) y (t .1))
+
+-- of two points at different locations one precedes the other
+pub precedes-other : (a b : Point) → at (a .x) (a .y) b ≡ false → precedes a b ≡ false → precedes b a ≡ true
+precedes-other a b apart = lexical-other (a .x) (b .x) (ltb (a .y) (b .y)) (ltb (b .y) (a .y)) by-y
+  where
+    by-y : a .x ≡ b .x → ltb (a .y) (b .y) ≡ false → ltb (b .y) (a .y) ≡ true
+    by-y e f =
+        let k : eqb (b .y) (a .y) ≡ false = rw (eq-eqb (b .x) (a .x) (sym e)) at apart in
+        lt-ltb (b .y) (a .y) (omega (arith, ltb-false (a .y) (b .y) f, eqb-false (b .y) (a .y) k))

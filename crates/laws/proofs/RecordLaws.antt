@@ -9,13 +9,14 @@ use lib.ListN.{length}
 use borrow.Author.Tests.{ltb-true}
 use Rattle.model.specs.Lists.{All, Pairs, Bytes}
 use Rattle.model.specs.Point.{Point, inDomain, inRange, precedes}
-use Rattle.model.specs.Bytes.{word, bytes2}
+use Rattle.model.specs.Bytes.{word, bytes2, signed}
 use Rattle.model.specs.SurveyFile.{pointsOf, faultAfter, fault, records}
 use Rattle.model.specs.Invariant.{Sound}
 use Rattle.laws.proofs.Tests.{cond-sound}
 use Rattle.laws.proofs.PrecedesLaws.{precedes-trans}
 use Rattle.laws.proofs.ListLaws.{all-imp}
-use Rattle.laws.proofs.Numbers.{word-back, bytes2-word, signed-back, complement-back, signed-range}
+use Rattle.laws.proofs.ValueLaws.{range-ends, byte-range, mag-below}
+use Rattle.laws.proofs.Numbers.{word-back, bytes2-word, signed-back, complement-back, signed-below}
 
 pub domain-bounds : (x y : ℕ) → inDomain x y ≡ true → (x < 4096) × (y < 4096)
 domain-bounds x y h =
@@ -43,7 +44,8 @@ points-records (a ∷ l) h =
     let d = domain-bounds (a .x) (a .y) (h .0 .location) in
     let ex : word (a .x / 256 % 256) (a .x % 256) ≡ a .x = omega (arith, word-back (a .x)) in
     let ey : word (a .y / 256 % 256) (a .y % 256) ≡ a .y = omega (arith, word-back (a .y)) in
-    rw (ex, ey, signed-back (a .z) (h .0 .value)) (ap {B = List Point} (λ m. a ∷ m) (points-records l (h .1)))
+    let r = range-ends (a .z) (h .0 .value) in
+    rw (ex, ey, signed-back 128 (a .z) (mag-below (a .z) 127 (r .0) (r .1))) (ap {B = List Point} (λ m. a ∷ m) (points-records l (h .1)))
 
 pub records-points : (r : List ℕ) → Bytes r → length r % 5 ≡ 0 → records (pointsOf r) ≡ r
 unfolding pointsOf records flatMap
@@ -56,16 +58,16 @@ records-points (a ∷ b ∷ c ∷ d ∷ e ∷ r) h n =
     let t = h .1 .1 in
     let e₁ : bytes2 (word a b) ≡ a ∷ b ∷ [] = bytes2-word (word a b) a b (h .0) (h .1 .0) (omega arith) in
     let e₂ : bytes2 (word c d) ≡ c ∷ d ∷ [] = bytes2-word (word c d) c d (t .0) (t .1 .0) (omega arith) in
-    rw (complement-back e (t .1 .1 .0), records-points r (t .1 .1 .1) (omega arith)) (ap₂ (λ u w. u ++ w ++ e ∷ r) e₁ e₂)
+    rw (complement-back 128 e (t .1 .1 .0), records-points r (t .1 .1 .1) (omega arith)) (ap₂ (λ u w. u ++ w ++ e ∷ r) e₁ e₂)
 
-pub points-range : (r : List ℕ) → Bytes r → All (λ (a : Point). inRange (a .z) ≡ true) (pointsOf r)
+pub points-range : (r : List ℕ) → All (λ (a : Point). inRange (a .z) ≡ true) (pointsOf r)
 unfolding pointsOf
-points-range [] h = tt
-points-range (a ∷ []) h = tt
-points-range (a ∷ b ∷ []) h = tt
-points-range (a ∷ b ∷ c ∷ []) h = tt
-points-range (a ∷ b ∷ c ∷ d ∷ []) h = tt
-points-range (a ∷ b ∷ c ∷ d ∷ e ∷ r) h = (signed-range e (h .1 .1 .1 .1 .0), points-range r (h .1 .1 .1 .1 .1))
+points-range [] = tt
+points-range (a ∷ []) = tt
+points-range (a ∷ b ∷ []) = tt
+points-range (a ∷ b ∷ c ∷ []) = tt
+points-range (a ∷ b ∷ c ∷ d ∷ []) = tt
+points-range (a ∷ b ∷ c ∷ d ∷ e ∷ r) = (byte-range (signed 128 e) (signed-below 128 e (omega arith)), points-range r)
 
 abbrev pub Placed : List Point → Type 0
 Placed l = All (λ (a : Point). inDomain (a .x) (a .y) ≡ true) l

@@ -28,7 +28,7 @@ file-by l r n e k = ap₂ (λ (m : List ℕ) (i : ℕ). m ++ trailer i m) e k
 word-drop : (f : List ℕ) (n i : ℕ) → wordAt f (n + i) ≡ wordAt (drop n f) i
 word-drop f n i = rw (getD-drop n f i 0, getD-drop n f (i + 1) 0, add-assoc n i 1)
 
-long-drop : (f : List ℕ) (n i : ℕ) → longAt f (n + i) ≡ longAt (drop n f) i
+pub long-drop : (f : List ℕ) (n i : ℕ) → longAt f (n + i) ≡ longAt (drop n f) i
 long-drop f n i = rw (word-drop f n i, add-assoc n i 2, word-drop f n (i + 2))
 
 -- the trailer t of a file, and what is read from it
@@ -63,7 +63,7 @@ module _ (f pre r : List ℕ) (n : ℕ) (e : f ≡ (pre ++ r) ++ trailer n r) (f
   count-in = omega (arith, written-ends .count, word-back n)
 
   back-in : backIn f ≡ length r
-  back-in = written-ends .back ∙ long-back (length r) (omega arith)
+  back-in = omega (arith, written-ends .back, long-back (length r))
 
   sum-in : sumIn f ≡ total r % 65536
   sum-in = written-ends .sum ∙ word-back (total r)
@@ -158,18 +158,16 @@ module _ (f : List ℕ) (b : Bytes f) (a : Accepted f) where
       ∙ ap (λ (t : List ℕ). recordsIn f ++ t) (drop-drop (backIn f) (recordStart f) f ∙ ap (λ (k : ℕ). drop k f) place ∙ sym trailer-again)
       ∙ sym (file-by (filePoints f) (recordsIn f) (countIn f) records-again (points-in f (a .trailer)))
 
-  invariant-in : Invariant (surveyOf (filePoints f))
-  unfolding filePoints
-  invariant-in =
-      let sure = faultless (filePoints f) (a .faultless) in
-      record {
-        count = omega (arith, points-in f (a .trailer));
-        ascending = sure .1;
-        sound = all-both _ (λ c. inRange (c .z) ≡ true) Sound (λ c p q. record { location = p; value = q }) (filePoints f) (sure .0) (points-range (recordsIn f) bytes-in);
-      }
-
 pub accepted-ends : (f : List ℕ) → Bytes f → fileRefusal f ≡ 0 → drop (recordStart f) f ≡ fileOf (filePoints f)
 accepted-ends f b h = ends-again f b (accepted-facts f h)
 
-pub accepted-invariant : (f : List ℕ) → Bytes f → fileRefusal f ≡ 0 → Invariant (surveyOf (filePoints f))
-accepted-invariant f b h = invariant-in f b (accepted-facts f h)
+pub accepted-invariant : (f : List ℕ) → fileRefusal f ≡ 0 → Invariant (surveyOf (filePoints f))
+unfolding filePoints
+accepted-invariant f h =
+    let a = accepted-facts f h in
+    let sure = faultless (filePoints f) (a .faultless) in
+    record {
+      count = omega (arith, points-in f (a .trailer), a .trailer .few);
+      ascending = sure .1;
+      sound = all-both _ (λ c. inRange (c .z) ≡ true) Sound (λ c p q. record { location = p; value = q }) (filePoints f) (sure .0) (points-range (recordsIn f));
+    }

@@ -46,7 +46,7 @@ module _ {A : Type 0} (before : A → A → Bool) where
       go true ih = ap {B = List A} (λ r. a ∷ r) (cut k)
       go false ih = ap {B = List A} (λ r. b ∷ r) ih
 
-  length-insert : (a : A) (l : List A) → length (insert before a l) ≡ suc (length l)
+  pub length-insert : (a : A) (l : List A) → length (insert before a l) ≡ suc (length l)
   unfolding insert
   length-insert a [] = refl
   length-insert a (b ∷ l) = go (before a b) (length-insert a l)

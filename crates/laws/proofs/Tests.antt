@@ -1,4 +1,4 @@
--- What tests joined by `||` and `cond` tell of their parts.
+-- What tests joined by `||` and `cond` tell of their parts, and what holds of a `cond`.
 use mathlib.Core.Path.{_≡_, refl}
 use Prim.Native.Nat.{ℕ, suc}
 use native.Mathlib.Omega.{arith}
@@ -11,6 +11,11 @@ or-true false b h = h
 pub or-false : (a b : Bool) → a || b ≡ false → (a ≡ false) × (b ≡ false)
 or-false true b h = (h, cc)
 or-false false b h = (refl, h)
+
+-- what holds of each branch where it is taken
+pub cond-cases : {A : Type 0} (P : A → Type 0) (t : Bool) {a b : A} → (t ≡ true → P a) → (t ≡ false → P b) → P (cond t a b)
+cond-cases P true f g = f refl
+cond-cases P false f g = g refl
 
 -- a check that finds nothing has passed, and so have those that follow
 pub cond-zero : (t : Bool) (k n : ℕ) → cond t (suc k) n ≡ 0 → (t ≡ false) × (n ≡ 0)

@@ -25,6 +25,7 @@ pub fn word_at(s: &[u8], i: usize) -> usize
 pub fn long_at(s: &[u8], i: usize) -> usize
     requires { ⌜ i + 3 < length (now s) ⌝ }
     ensures { λ r. ⌜ r ≡ longAt (now (s .entry)) i ⌝ }
+    ensures { λ r. ⌜ r < 4294967296 ⌝ }
 {
     65536 * word_at(s, i) + word_at(s, i + 2)
 }
@@ -51,6 +52,17 @@ pub fn signed_of(b: u8) -> i8
         b as i8
     } else {
         -1 - ((255 - b) as i8)
+    }
+}
+
+// A number of four bytes in two's complement, as a value.
+pub fn signed_long(n: u32) -> i32
+    ensures { λ r. ⌜ r ≡ signed 2147483648 n ⌝ }
+{
+    if n < 2147483648 {
+        n as i32
+    } else {
+        -1 - ((4294967295 - n) as i32)
     }
 }
 

@@ -12,7 +12,7 @@ use Rattle.laws.proofs.SortLaws.{insert-at}
 use Rattle.candidates.specs.declared.Candidate.{Candidate}
 use Rattle.candidates.specs.Nearest.{precedesBy, noCandidate, Place}
 use Rattle.laws.proofs.MapLaws.{length-under}
-use Rattle.candidates.proofs.Insertions.{putIn, put-room, put-full}
+use Rattle.laws.proofs.Insertions.{putIn, put-room, put-full}
 use Rattle.candidates.proofs.put.Statement.{statement}
 use Rattle.candidates.proofs.put.Tie as tie
 

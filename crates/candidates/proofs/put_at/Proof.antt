@@ -1,11 +1,10 @@
 -- `put_at` meets its contract. The invariant: the array with the carried entry put in at k is what was asked for, at full length.
 use mathlib.Core.Path.{_≡_, refl, _∙_}
-use Prim.Native.Nat.{_-_, _≤_, _<_}
-use native.Mathlib.Numerals.{add-one}
+use Prim.Native.Nat.{_-_, _≤_}
 use native.Mathlib.Omega.{arith}
 use lib.ListN.{length, length-set}
 use borrow.Author.Needs.{needs}
-use Rattle.candidates.proofs.Insertions.{putIn, carry-step, carry-end}
+use Rattle.laws.proofs.Insertions.{putIn, carry-step, carry-end}
 use Rattle.candidates.proofs.put_at.Statement.{statement}
 use Rattle.candidates.proofs.put_at.Tie as tie
 
@@ -39,14 +38,12 @@ loop-less c = omega arith
 loop-again : tie.Need-loop-again Inv-loop μ-loop
 loop-again c =
     let l = c .before .before .loop in
-    let h : l .k < length (l .a) = omega arith in
-    (omega arith, simp length-set (omega arith), rw add-one (carry-step (l .a) (l .k) (l .c) _ h ∙ l .inv .2))
+    (omega arith, simp length-set (omega arith), carry-step (l .a) (l .k) (l .c) _ (omega arith) ∙ l .inv .2)
 
 returns : tie.Need-returns Inv-loop μ-loop
 returns c =
     let l = c .before .loop in
-    let e : l .k ≡ 11 = omega arith in
-    carry-end (l .a) _ 11 (l .c) (l .inv .1) (rw e at (l .inv .2))
+    carry-end (l .a) _ 11 (l .k) (l .c) (l .inv .1) (omega arith) (l .inv .2)
 
 pub put-at-spec : {M : Type 1} → statement M
 put-at-spec =

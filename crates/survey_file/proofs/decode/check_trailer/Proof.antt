@@ -54,7 +54,7 @@ returns-5 c =
     let m = w .before .before in
     let marked = sym (m .has-magic .ensures) ∙ not-false _ (w .before .if3 .left) in
     let few = rw (w .word-at .ensures .0) at (b .before .if4 .left) in
-    sym (check-twelve _ 0 (m .before .before .if1 .left) (m .before .if2 .left) marked few (inl (rw (b .long-at .ensures, w .word-at .ensures .0) at (c .if5 .taken))))
+    sym (check-twelve _ 0 (m .before .before .if1 .left) (m .before .if2 .left) marked few (inl (rw (b .long-at .ensures .0, w .word-at .ensures .0) at (c .if5 .taken))))
 
 returns-6 : tie.Need-returns-6
 returns-6 c =
@@ -63,7 +63,7 @@ returns-6 c =
     let m = w .before .before in
     let marked = sym (m .has-magic .ensures) ∙ not-false _ (w .before .if3 .left) in
     let few = rw (w .word-at .ensures .0) at (b .before .if4 .left) in
-    sym (check-twelve _ 0 (m .before .before .if1 .left) (m .before .if2 .left) marked few (inr (rw (b .long-at .ensures) at (c .if6 .taken))))
+    sym (check-twelve _ 0 (m .before .before .if1 .left) (m .before .if2 .left) marked few (inr (rw (b .long-at .ensures .0) at (c .if6 .taken))))
 
 sub-total : tie.Need-sub-total
 sub-total c = omega arith
@@ -91,10 +91,10 @@ returns-7 c =
     let m = w .before .before in
     let marked = sym (m .has-magic .ensures) ∙ not-false _ (w .before .if3 .left) in
     let few = rw (w .word-at .ensures .0) at (b .before .if4 .left) in
-    let back = rw (b .long-at .ensures, w .word-at .ensures .0) at (e .before .if5 .left) in
-    let room = rw (b .long-at .ensures) at (e .if6 .left) in
+    let back = rw (b .long-at .ensures .0, w .word-at .ensures .0) at (e .before .if5 .left) in
+    let room = rw (b .long-at .ensures .0) at (e .if6 .left) in
     let f = m .before .before .before .before .args .file .now in
-    let sum : c .before .before .total .result ≡ total (recordsIn f) = c .before .before .total .ensures ∙ ap total (part-is f _ (b .long-at .ensures) room) in
+    let sum : c .before .before .total .result ≡ total (recordsIn f) = c .before .before .total .ensures ∙ ap total (part-is f _ (b .long-at .ensures .0) room) in
     sym (check-thirteen _ 0 (m .before .before .if1 .left) (m .before .if2 .left) marked few back room (rw (sum, c .before .word-at2 .ensures .0) at (c .if7 .taken)))
 
 returns-8 : tie.Need-returns-8
@@ -105,10 +105,10 @@ returns-8 c =
     let m = w .before .before in
     let marked = sym (m .has-magic .ensures) ∙ not-false _ (w .before .if3 .left) in
     let few = rw (w .word-at .ensures .0) at (b .before .if4 .left) in
-    let back = rw (b .long-at .ensures, w .word-at .ensures .0) at (e .before .if5 .left) in
-    let room = rw (b .long-at .ensures) at (e .if6 .left) in
+    let back = rw (b .long-at .ensures .0, w .word-at .ensures .0) at (e .before .if5 .left) in
+    let room = rw (b .long-at .ensures .0) at (e .if6 .left) in
     let f = m .before .before .before .before .args .file .now in
-    let sum : c .before .before .total .result ≡ total (recordsIn f) = c .before .before .total .ensures ∙ ap total (part-is f _ (b .long-at .ensures) room) in
+    let sum : c .before .before .total .result ≡ total (recordsIn f) = c .before .before .total .ensures ∙ ap total (part-is f _ (b .long-at .ensures .0) room) in
     sym (check-passed _ 0 (m .before .before .if1 .left) (m .before .if2 .left) marked few back room (rw (sum, c .before .word-at2 .ensures .0) at (c .if7 .left)))
 
 pub check-trailer-spec : {M : Type 1} → statement M

@@ -1,0 +1,56 @@
+-- Demand 3 of every program: whatever the calls, a lookup after them is right about what the model says is present; and what the survey then holds.
+use mathlib.Core.Path.{_≡_, sym, ap, _∙_}
+use Prim.Native.Nat.{ℕ}
+use mathlib.Core.List.{List, [], _∷_, _++_}
+use Rattle.model.specs.Calls.{Call, Add, Change, Drop, Clear, Load, Lookup, LookupNeighbours, after, afterAll, present}
+use Rattle.model.specs.Invariant.{Invariant}
+use Rattle.laws.proofs.CallLaws.{after-lookup, after-lookup-neighbours, present-more}
+use Rattle.laws.proofs.HistoryInvariant.{history-invariant}
+use Rattle.survey.specs.declared.Survey.{Survey}
+use Rattle.survey.specs.declared.Answer.{Answer}
+use Rattle.survey.specs.declared.AnswerWithNeighbours.{AnswerWithNeighbours}
+use Rattle.survey.specs.Held.{stateOf, Plain}
+use Rattle.survey.proofs.lookup.Reads as lookup-of
+use Rattle.survey.proofs.lookup_neighbours.Reads as lookup-neighbours-of
+use Rattle.history.specs.Claim.{Claim}
+use Rattle.history.specs.Runs.{Runs, fresh, add, change, drop, clear, load, lookup, lookup-neighbours}
+use Rattle.history.proofs.ClaimLaws.{claim-of}
+
+-- one call more
+more : (cs : List Call) (c : Call) (s t : Survey) → stateOf s ≡ present cs → stateOf t ≡ after c (stateOf s) → stateOf t ≡ present (cs ++ c ∷ [])
+more cs c s t p q = q ∙ ap (after c) p ∙ sym (present-more cs c)
+
+-- a list of calls leaves in the survey what the model says is present
+pub leaves : {cs : List Call} {s : Survey} → Runs cs s → stateOf s ≡ present cs
+unfolding present afterAll
+leaves (fresh s p) = p .0
+leaves (add {cs = cs} {s = s} h x y z r p) = more cs (Add x y z) s (r .survey) (leaves h) (p .state)
+leaves (change {cs = cs} {s = s} h x y z r p) = more cs (Change x y z) s (r .survey) (leaves h) (p .state)
+leaves (drop {cs = cs} {s = s} h x y r p) = more cs (Drop x y) s (r .survey) (leaves h) (p .state)
+leaves (clear {cs = cs} {s = s} h r p) = more cs Clear s (r .survey) (leaves h) (p .state)
+leaves (load {cs = cs} {s = s} h κs file r p) = more cs (Load (file .now)) s (r .survey) (leaves h) (p .state)
+leaves (lookup {cs = cs} {s = s} h x y a p) = more cs (Lookup x y) s s (leaves h) (sym (after-lookup x y (stateOf s)))
+leaves (lookup-neighbours {cs = cs} {s = s} h x y l p) =
+    more cs (LookupNeighbours x y 10) s s (leaves h) (sym (after-lookup-neighbours x y 10 (stateOf s)))
+
+-- nothing in it is read otherwise than it stands
+pub stays-plain : {cs : List Call} {s : Survey} → Runs cs s → Plain s
+stays-plain (fresh s p) = p .1
+stays-plain (add h x y z r p) = p .plain (stays-plain h)
+stays-plain (change h x y z r p) = p .plain (stays-plain h)
+stays-plain (drop h x y r p) = p .plain (stays-plain h)
+stays-plain (clear h r p) = p .plain (stays-plain h)
+stays-plain (load h κs file r p) = p .plain (stays-plain h)
+stays-plain (lookup h x y a p) = stays-plain h
+stays-plain (lookup-neighbours h x y l p) = stays-plain h
+
+-- at most 256 points, ascending, in the domain and in range
+pub survey-invariant : {cs : List Call} {s : Survey} → Runs cs s → Invariant (stateOf s)
+survey-invariant {cs} h = rw (leaves h) (history-invariant cs)
+
+module _ {cs : List Call} {s : Survey} (h : Runs cs s) (x y : ℕ) where
+  pub demand-3 : (a : Answer) → lookup-of.Post tt (s, (x, (y, tt))) a (s, (x, (y, tt))) → Claim x y (present cs) a
+  demand-3 a p = rw (leaves h) at (claim-of x y (stateOf s) a (p .0) (p .1))
+
+  pub demand-3-neighbours : (l : AnswerWithNeighbours) → lookup-neighbours-of.Post tt (s, (x, (y, tt))) l (s, (x, (y, tt))) → Claim x y (present cs) (l .answer)
+  demand-3-neighbours l p = rw (leaves h) at (claim-of x y (stateOf s) (l .answer) (p .0) (p .1 .0))

@@ -1,0 +1,90 @@
+// Why a call on the points that arrays hold is refused: document 01, "The bench". The first number that applies, or 0.
+ghost use mathlib.Core.Path.{_≡_};
+ghost use mathlib.Core.List.{List};
+ghost use Prim.Native.Nat.{ℕ};
+ghost use lib.IntN.{ℤ};
+ghost use Rattle.model.specs.Point.{inDomain, inRange};
+ghost use Rattle.model.specs.Calls.{Add, Change, Drop, Lookup, taken, refusal};
+ghost use Rattle.columns.specs.Columns.{pointsIn, surveyIn};
+
+fn is_in_domain(x: u32, y: u32) -> bool
+    ensures { λ r. ⌜ r ≡ inDomain x y ⌝ }
+{
+    if 4096 <= x {
+        return false;
+    }
+    y < 4096
+}
+
+fn is_in_range(z: i32) -> bool
+    ensures { λ r. ⌜ r ≡ inRange z ⌝ }
+{
+    if -128 <= z {
+        return z <= 127;
+    }
+    false
+}
+
+fn is_taken<'a>(xs: &'a [u16; 256], ys: &'a [u16; 256], n: usize, x: u32, y: u32) -> bool
+    ensures { λ r. ⌜ ((zs : List ℤ) → r ≡ taken x y (pointsIn (now (xs .entry)) (now (ys .entry)) zs n)) ⌝ }
+{
+    locate::find(xs, ys, n, x, y) < columns::clamped(n)
+}
+
+pub fn of_add<'a>(xs: &'a [u16; 256], ys: &'a [u16; 256], n: usize, x: u32, y: u32, z: i32) -> u8
+    ensures { λ r. ⌜ ((zs : List ℤ) → r ≡ refusal (Add x y z) (surveyIn (now (xs .entry)) (now (ys .entry)) zs n)) ⌝ }
+{
+    if !is_in_domain(x, y) {
+        return 1;
+    }
+    if !is_in_range(z) {
+        return 2;
+    }
+    if is_taken(xs, ys, n, x, y) {
+        return 3;
+    }
+    if 256 <= n {
+        return 5;
+    }
+    0
+}
+
+pub fn of_change<'a>(xs: &'a [u16; 256], ys: &'a [u16; 256], n: usize, x: u32, y: u32, z: i32) -> u8
+    ensures { λ r. ⌜ ((zs : List ℤ) → r ≡ refusal (Change x y z) (surveyIn (now (xs .entry)) (now (ys .entry)) zs n)) ⌝ }
+{
+    if !is_in_domain(x, y) {
+        return 1;
+    }
+    if !is_in_range(z) {
+        return 2;
+    }
+    if !is_taken(xs, ys, n, x, y) {
+        return 4;
+    }
+    0
+}
+
+pub fn of_drop<'a>(xs: &'a [u16; 256], ys: &'a [u16; 256], n: usize, x: u32, y: u32) -> u8
+    ensures { λ r. ⌜ ((zs : List ℤ) → r ≡ refusal (Drop x y) (surveyIn (now (xs .entry)) (now (ys .entry)) zs n)) ⌝ }
+{
+    if !is_in_domain(x, y) {
+        return 1;
+    }
+    if !is_taken(xs, ys, n, x, y) {
+        return 4;
+    }
+    0
+}
+
+// Of a lookup in n points, whatever they are.
+pub fn of_lookup(n: usize, x: u32, y: u32) -> u8
+    ensures { λ r. ⌜ ((xs ys : List ℕ) (zs : List ℤ) → r ≡ refusal (Lookup x y) (surveyIn xs ys zs n)) ⌝ }
+{
+    if !is_in_domain(x, y) {
+        return 1;
+    }
+    if n == 0 {
+        return 6;
+    }
+    0
+}

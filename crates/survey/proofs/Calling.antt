@@ -1,0 +1,71 @@
+-- What an accepted call hands on fits where it goes, and what it does at an index is what the model says of the points.
+use mathlib.Core.Path.{_≡_, sym, ap, _∙_}
+use Prim.Native.Nat.{ℕ, _<_, _≤_}
+use mathlib.Core.Bool.{true}
+use mathlib.Core.List.{List}
+use lib.IntN.{ℤ}
+use lib.ListN.{length, set}
+use mir.Syntax.{w8}
+use mir.Val.{SFits}
+use Rattle.model.specs.Point.{Point, State, point, inDomain, inRange, withPoints}
+use Rattle.model.specs.Calls.{Add, Change, Drop, refusal, accepted}
+use Rattle.laws.proofs.ValueLaws.{range-ends, mag-below}
+use Rattle.laws.proofs.RecordLaws.{domain-bounds}
+use Rattle.laws.proofs.CallLaws.{add-accepted, change-accepted, drop-accepted}
+use Rattle.laws.proofs.Insertions.{putIn, cutOut}
+use Rattle.locate.specs.Leading.{leading, elsewhere, notAfter}
+use Rattle.locate.proofs.LeadingLaws.{leading-le}
+use Rattle.locate.proofs.IndexLaws.{taken-below, remove-is, revalue-is, insert-is}
+use Rattle.survey.specs.declared.Survey.{Survey}
+use Rattle.survey.specs.Held.{stateOf, Becomes}
+
+-- a location and a value as the arrays hold them
+pub record Fitting (x y : ℕ) (z : ℤ) : Type 0 where
+  pub fits-x : x < 4096
+  pub fits-y : y < 4096
+  pub fits-z : SFits w8 z
+
+fitting : (x y : ℕ) (z : ℤ) → inDomain x y ≡ true → inRange z ≡ true → Fitting x y z
+fitting x y z d r =
+    let b = domain-bounds x y d in
+    let e = range-ends z r in
+    record { fits-x = b .0; fits-y = b .1; fits-z = record { sfits = mag-below z 127 (e .0) (e .1) } }
+
+module _ (x y : ℕ) (z : ℤ) (s : State) where
+  pub add-fits : refusal (Add x y z) s ≡ 0 → Fitting x y z
+  add-fits e = let a = add-accepted x y z s e in fitting x y z (a .0) (a .1)
+
+  pub add-room : refusal (Add x y z) s ≡ 0 → length (s .points) < 256
+  add-room e = add-accepted x y z s e .3
+
+  pub change-fits : refusal (Change x y z) s ≡ 0 → Fitting x y z
+  change-fits e = let a = change-accepted x y z s e in fitting x y z (a .0) (a .1)
+
+module _ (s : Survey) (x y i : ℕ) where
+  abbrev l : List Point
+  l = stateOf s .points
+
+  -- where a new point goes
+  module _ (at : i ≡ leading (notAfter x y) l) where
+    pub rank-within : i ≤ length l
+    rank-within = rw at (leading-le (notAfter x y) l)
+
+    pub added : (z : ℤ) (t : Survey) → Becomes s (putIn i (point x y z) l) t → stateOf t ≡ accepted (Add x y z) (stateOf s)
+    unfolding accepted
+    added z t b = b .state ∙ ap (withPoints (stateOf s)) (ap (λ (k : ℕ). putIn k (point x y z) l) at ∙ sym (insert-is x y z l))
+
+  -- where a point is
+  module _ (at : i ≡ leading (elsewhere x y) l) where
+    pub change-within : (z : ℤ) → refusal (Change x y z) (stateOf s) ≡ 0 → i < length l
+    change-within z e = rw at (taken-below x y l (change-accepted x y z (stateOf s) e .2))
+
+    pub drop-within : refusal (Drop x y) (stateOf s) ≡ 0 → i < length l
+    drop-within e = rw at (taken-below x y l (drop-accepted x y (stateOf s) e .1))
+
+    pub changed : (z : ℤ) (t : Survey) → Becomes s (set l i (point x y z)) t → stateOf t ≡ accepted (Change x y z) (stateOf s)
+    unfolding accepted
+    changed z t b = b .state ∙ ap (withPoints (stateOf s)) (ap (λ (k : ℕ). set l k (point x y z)) at ∙ sym (revalue-is x y z l))
+
+    pub dropped : (t : Survey) → Becomes s (cutOut i l) t → stateOf t ≡ accepted (Drop x y) (stateOf s)
+    unfolding accepted
+    dropped t b = b .state ∙ ap (withPoints (stateOf s)) (ap (λ (k : ℕ). cutOut k l) at ∙ sym (remove-is x y l))

@@ -1,0 +1,30 @@
+-- How a reply is put together: of a refused call from the survey that came in, of an accepted one from what it leaves.
+use mathlib.Core.Path.{_≡_, sym, ap, _∙_}
+use Prim.Native.Nat.{ℕ}
+use Rattle.model.specs.Calls.{Call, refusal, accepted}
+use Rattle.laws.proofs.CallLaws.{after-accepted, after-refused}
+use Rattle.survey.specs.declared.Survey.{Survey}
+use Rattle.survey.specs.declared.Reply.{Reply}
+use Rattle.survey.specs.Held.{stateOf, Plain}
+use Rattle.survey.specs.Replies.{Replies}
+
+module _ (c : Call) (s : Survey) where
+  pub reply-refused : (n : ℕ) (r : Reply) → n ≡ refusal c (stateOf s) → (n ≡ 0 → ⊥) → (r .refusal ≡ n) × (r .survey ≡ s) → Replies c s r
+  reply-refused n r e h g =
+      record {
+        number = g .0 ∙ e;
+        state = ap stateOf (g .1) ∙ sym (after-refused c (stateOf s) (λ k. h (e ∙ k)));
+        unaltered = λ _. g .1;
+        plain = λ p. rw (g .1) p;
+      }
+
+  pub reply-accepted : (n : ℕ) (t : Survey) → n ≡ refusal c (stateOf s) → n ≡ 0 → stateOf t ≡ accepted c (stateOf s) → (Plain s → Plain t)
+      → Replies c s (record { refusal = n; survey = t })
+  reply-accepted n t e h g p =
+      let k : refusal c (stateOf s) ≡ 0 = sym e ∙ h in
+      record {
+        number = e;
+        state = g ∙ sym (after-accepted c (stateOf s) k);
+        unaltered = λ f. absurd (f k);
+        plain = p;
+      }

@@ -1,0 +1,14 @@
+-- `fresh` meets its contract: a count of 0 holds no point.
+use mathlib.Core.Path.{refl}
+use Rattle.model.specs.Lists.{tabulate}
+use Rattle.columns.specs.Columns.{held, pointsIn}
+use Rattle.survey.specs.Held.{stateOf, Plain}
+use Rattle.survey.proofs.fresh.Statement.{statement}
+use Rattle.survey.proofs.fresh.Tie as tie
+
+returns : tie.Need-returns
+unfolding stateOf Plain pointsIn held tabulate
+returns c = (refl, refl)
+
+pub fresh-spec : {M : Type 1} → statement M
+fresh-spec = tie.close (tie.spec returns)

@@ -1,0 +1,59 @@
+// The survey with one point put in, taken out, or written over.
+ghost use mathlib.Core.List.{_++_, _∷_};
+ghost use Prim.Native.Nat.{_+_, _≤_, _<_};
+ghost use lib.ListN.{length, take, drop, set};
+ghost use Rattle.model.specs.Point.{point};
+ghost use Rattle.survey.specs.Held.{stateOf, Becomes};
+use crate::Survey;
+
+// A point at index i, those from there on one further.
+pub(crate) fn with_point(s: Survey, i: usize, x: u16, y: u16, z: i8) -> Survey
+    requires { ⌜ (i ≤ length (stateOf s .points)) × (length (stateOf s .points) < 256) × (x < 4096) × (y < 4096) ⌝ }
+    ensures { λ r. ⌜ Becomes s (take i (stateOf s .points) ++ point x y z ∷ drop i (stateOf s .points)) r ⌝ }
+{
+    let n = s.count;
+    let xs = s.x;
+    let ys = s.y;
+    let zs = s.z;
+    let a = shift::put_u16(xs, i, x);
+    let b = shift::put_u16(ys, i, y);
+    let c = shift::put_i8(zs, i, z);
+    let mut t = s;
+    t.x = a;
+    t.y = b;
+    t.z = c;
+    t.count = n + 1;
+    t
+}
+
+// Without the point at index i, those behind it one nearer.
+pub(crate) fn without_point(s: Survey, i: usize) -> Survey
+    requires { ⌜ i < length (stateOf s .points) ⌝ }
+    ensures { λ r. ⌜ Becomes s (take i (stateOf s .points) ++ drop (i + 1) (stateOf s .points)) r ⌝ }
+{
+    let n = columns::clamped(s.count);
+    let xs = s.x;
+    let ys = s.y;
+    let zs = s.z;
+    let a = shift::cut_u16(xs, i);
+    let b = shift::cut_u16(ys, i);
+    let c = shift::cut_i8(zs, i);
+    let mut t = s;
+    t.x = a;
+    t.y = b;
+    t.z = c;
+    t.count = n - 1;
+    t
+}
+
+// Another point at index i.
+pub(crate) fn with_value(s: Survey, i: usize, x: u16, y: u16, z: i8) -> Survey
+    requires { ⌜ (i < length (stateOf s .points)) × (x < 4096) × (y < 4096) ⌝ }
+    ensures { λ r. ⌜ Becomes s (set (stateOf s .points) i (point x y z)) r ⌝ }
+{
+    let mut t = s;
+    t.x[i] = x;
+    t.y[i] = y;
+    t.z[i] = z;
+    t
+}

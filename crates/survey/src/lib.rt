@@ -1,0 +1,193 @@
+// The survey: at most 256 points, ascending by x, then y. A call takes the survey by value; one that edits gives it back beside the refusal's number.
+mod edits;
+
+ghost use mathlib.Core.Path.{_≡_};
+ghost use lib.ListN.{length};
+ghost use Rattle.model.specs.Point.{location};
+ghost use Rattle.model.specs.SurveyFile.{writtenInto};
+ghost use Rattle.model.specs.Calls.{Add, Change, Drop, Clear, Load, fresh as freshState};
+ghost use Rattle.survey_file.specs.Written.{writtenAs};
+ghost use Rattle.survey.specs.Held.{stateOf, Plain};
+ghost use Rattle.survey.specs.Replies.{Replies};
+ghost use Rattle.survey.specs.Answers.{lookedUp, Rounded, tenRecords};
+use mean::Answered;
+use records::Record;
+use survey_file::Written;
+
+pub struct Survey {
+    x: [u16; 256],
+    y: [u16; 256],
+    z: [i8; 256],
+    count: usize,
+}
+
+// What a call that edits gives: 0 or the refusal's number, and the survey, the same one where it is refused.
+pub struct Reply {
+    pub refusal: u8,
+    pub survey: Survey,
+}
+
+// What a lookup gives: the answer in 256ths of a step, the count of chosen points and the radius R in 256ths of a step; or the refusal's number.
+pub enum Answer {
+    Found(i16, usize, u32),
+    Refused(u8),
+}
+
+// What a lookup with neighbours gives: of the records as many are meant as the answer counts.
+pub struct AnswerWithNeighbours {
+    pub answer: Answer,
+    pub neighbours: [Record; 10],
+}
+
+// A survey of no points.
+pub fn fresh() -> Survey
+    ensures { λ r. ⌜ (stateOf r ≡ freshState) × Plain r ⌝ }
+{
+    Survey {
+        x: [0u16; 256],
+        y: [0u16; 256],
+        z: [0i8; 256],
+        count: 0,
+    }
+}
+
+fn refused(no: u8, s: Survey) -> Reply
+    ensures { λ r. ⌜ (r .refusal ≡ no) × (r .survey ≡ s) ⌝ }
+{
+    Reply {
+        refusal: no,
+        survey: s,
+    }
+}
+
+// A new point: refusals 1, 2, 3, 5.
+pub fn add(s: Survey, x: u32, y: u32, z: i32) -> Reply
+    ensures { λ r. ⌜ Replies (Add x y z) s r ⌝ }
+{
+    let no = refusals::of_add(&s.x, &s.y, s.count, x, y, z);
+    if no != 0 {
+        return refused(no, s);
+    }
+    let i = locate::rank(&s.x, &s.y, s.count, x, y);
+    let t = edits::with_point(s, i, x as u16, y as u16, z as i8);
+    Reply {
+        refusal: no,
+        survey: t,
+    }
+}
+
+// Another value at a location: refusals 1, 2, 4.
+pub fn change(s: Survey, x: u32, y: u32, z: i32) -> Reply
+    ensures { λ r. ⌜ Replies (Change x y z) s r ⌝ }
+{
+    let no = refusals::of_change(&s.x, &s.y, s.count, x, y, z);
+    if no != 0 {
+        return refused(no, s);
+    }
+    let i = locate::find(&s.x, &s.y, s.count, x, y);
+    let t = edits::with_value(s, i, x as u16, y as u16, z as i8);
+    Reply {
+        refusal: no,
+        survey: t,
+    }
+}
+
+// A point taken out: refusals 1, 4.
+pub fn drop(s: Survey, x: u32, y: u32) -> Reply
+    ensures { λ r. ⌜ Replies (Drop x y) s r ⌝ }
+{
+    let no = refusals::of_drop(&s.x, &s.y, s.count, x, y);
+    if no != 0 {
+        return refused(no, s);
+    }
+    let i = locate::find(&s.x, &s.y, s.count, x, y);
+    let t = edits::without_point(s, i);
+    Reply {
+        refusal: no,
+        survey: t,
+    }
+}
+
+// All points taken out.
+pub fn clear(s: Survey) -> Reply
+    ensures { λ r. ⌜ Replies Clear s r ⌝ }
+{
+    let mut t = s;
+    t.count = 0;
+    Reply {
+        refusal: 0,
+        survey: t,
+    }
+}
+
+// The points of a survey file in place of the survey's: refusals 9 to 15.
+pub fn load(s: Survey, file: &[u8]) -> Reply
+    ensures { λ r. ⌜ Replies (Load (now (file .entry))) s r ⌝ }
+{
+    let f = survey_file::read(file);
+    if f.refusal != 0 {
+        return refused(f.refusal, s);
+    }
+    let xs = f.x;
+    let ys = f.y;
+    let zs = f.z;
+    let mut t = s;
+    t.x = xs;
+    t.y = ys;
+    t.z = zs;
+    t.count = f.count;
+    Reply {
+        refusal: f.refusal,
+        survey: t,
+    }
+}
+
+// The survey file to the front of the lent bytes, and its length: refusal 8.
+pub fn write(s: Survey, out: &mut [u8]) -> Written
+    ensures { λ r. ⌜ r ≡ writtenAs (stateOf s) (length (now (out .entry))) ⌝ }
+    ensures { λ _. ⌜ now (out .exit) ≡ writtenInto (stateOf s) (now (out .entry)) ⌝ }
+{
+    survey_file::write(&s.x, &s.y, &s.z, s.count, out)
+}
+
+fn found(a: Answered) -> Answer
+    ensures { λ r. ⌜ r ≡ Answer.Found (a .answer) (a .chosen .count) (a .chosen .radius) ⌝ }
+{
+    let c = a.chosen;
+    Answer::Found(a.answer, c.count, c.radius)
+}
+
+// The interpolated value at a location: refusals 1, 6.
+pub fn lookup(s: Survey, x: u32, y: u32) -> Answer
+    ensures { λ r. ⌜ r ≡ lookedUp (stateOf s) x y ⌝ }
+    ensures { λ r. ⌜ Rounded (stateOf s) (location x y) r ⌝ }
+{
+    let no = refusals::of_lookup(s.count, x, y);
+    if no != 0 {
+        return Answer::Refused(no);
+    }
+    let a = mean::answer_at(&s.x, &s.y, &s.z, s.count, x as u16, y as u16);
+    found(a)
+}
+
+// The same answer, and the chosen points in order of choice: refusals 1, 6.
+pub fn lookup_neighbours(s: Survey, x: u32, y: u32) -> AnswerWithNeighbours
+    ensures { λ r. ⌜ r .answer ≡ lookedUp (stateOf s) x y ⌝ }
+    ensures { λ r. ⌜ Rounded (stateOf s) (location x y) (r .answer) ⌝ }
+    ensures { λ r. ⌜ r .neighbours ≡ tenRecords (stateOf s) x y ⌝ }
+{
+    let no = refusals::of_lookup(s.count, x, y);
+    if no != 0 {
+        let none = records::none();
+        return AnswerWithNeighbours {
+            answer: Answer::Refused(no),
+            neighbours: none,
+        };
+    }
+    let a = mean::answer_at(&s.x, &s.y, &s.z, s.count, x as u16, y as u16);
+    let list = records::records_of(a.chosen);
+    AnswerWithNeighbours {
+        answer: found(a),
+        neighbours: list,
+    }
+}
