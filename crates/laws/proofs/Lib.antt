@@ -22,3 +22,4 @@ pub mod RecordLaws
 pub mod RoundTrip
 pub mod CallLaws
 pub mod HistoryInvariant
+pub mod DropLaws

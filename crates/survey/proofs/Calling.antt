@@ -1,13 +1,13 @@
--- What an accepted call hands on fits where it goes, and what it does at an index is what the model says of the points.
+-- What an accepted call hands on is sound, so it fits the arrays; and what is done at an index is what the model says of the points.
 use mathlib.Core.Path.{_≡_, sym, ap, _∙_}
 use Prim.Native.Nat.{ℕ, _<_, _≤_}
-use mathlib.Core.Bool.{true}
 use mathlib.Core.List.{List}
 use lib.IntN.{ℤ}
 use lib.ListN.{length, set}
 use mir.Syntax.{w8}
 use mir.Val.{SFits}
-use Rattle.model.specs.Point.{Point, State, point, inDomain, inRange, withPoints}
+use Rattle.model.specs.Point.{Point, State, point, withPoints}
+use Rattle.model.specs.Invariant.{Sound}
 use Rattle.model.specs.Calls.{Add, Change, Drop, refusal, accepted}
 use Rattle.laws.proofs.ValueLaws.{range-ends, mag-below}
 use Rattle.laws.proofs.RecordLaws.{domain-bounds}
@@ -19,27 +19,24 @@ use Rattle.locate.proofs.IndexLaws.{taken-below, remove-is, revalue-is, insert-
 use Rattle.survey.specs.declared.Survey.{Survey}
 use Rattle.survey.specs.Held.{stateOf, Becomes}
 
--- a location and a value as the arrays hold them
-pub record Fitting (x y : ℕ) (z : ℤ) : Type 0 where
+-- a location and a value fit the arrays
+pub record Fits (x y : ℕ) (z : ℤ) : Type 0 where
   pub fits-x : x < 4096
   pub fits-y : y < 4096
   pub fits-z : SFits w8 z
 
-fitting : (x y : ℕ) (z : ℤ) → inDomain x y ≡ true → inRange z ≡ true → Fitting x y z
-fitting x y z d r =
-    let b = domain-bounds x y d in
-    let e = range-ends z r in
+pub sound-fits : (x y : ℕ) (z : ℤ) → Sound (point x y z) → Fits x y z
+sound-fits x y z s =
+    let b = domain-bounds x y (s .location) in
+    let e = range-ends z (s .value) in
     record { fits-x = b .0; fits-y = b .1; fits-z = record { sfits = mag-below z 127 (e .0) (e .1) } }
 
 module _ (x y : ℕ) (z : ℤ) (s : State) where
-  pub add-fits : refusal (Add x y z) s ≡ 0 → Fitting x y z
-  add-fits e = let a = add-accepted x y z s e in fitting x y z (a .0) (a .1)
+  pub add-hands : refusal (Add x y z) s ≡ 0 → (length (s .points) < 256) × Sound (point x y z)
+  add-hands e = let a = add-accepted x y z s e in (a .3, record { location = a .0; value = a .1 })
 
-  pub add-room : refusal (Add x y z) s ≡ 0 → length (s .points) < 256
-  add-room e = add-accepted x y z s e .3
-
-  pub change-fits : refusal (Change x y z) s ≡ 0 → Fitting x y z
-  change-fits e = let a = change-accepted x y z s e in fitting x y z (a .0) (a .1)
+  pub change-hands : refusal (Change x y z) s ≡ 0 → Sound (point x y z)
+  change-hands e = let a = change-accepted x y z s e in record { location = a .0; value = a .1 }
 
 module _ (s : Survey) (x y i : ℕ) where
   abbrev l : List Point

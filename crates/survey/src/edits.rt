@@ -3,21 +3,22 @@ ghost use mathlib.Core.List.{_++_, _∷_};
 ghost use Prim.Native.Nat.{_+_, _≤_, _<_};
 ghost use lib.ListN.{length, take, drop, set};
 ghost use Rattle.model.specs.Point.{point};
+ghost use Rattle.model.specs.Invariant.{Sound};
 ghost use Rattle.survey.specs.Held.{stateOf, Becomes};
 use crate::Survey;
 
 // A point at index i, those from there on one further.
-pub(crate) fn with_point(s: Survey, i: usize, x: u16, y: u16, z: i8) -> Survey
-    requires { ⌜ (i ≤ length (stateOf s .points)) × (length (stateOf s .points) < 256) × (x < 4096) × (y < 4096) ⌝ }
+pub(crate) fn with_point(s: Survey, i: usize, x: u32, y: u32, z: i32) -> Survey
+    requires { ⌜ (i ≤ length (stateOf s .points)) × (length (stateOf s .points) < 256) × Sound (point x y z) ⌝ }
     ensures { λ r. ⌜ Becomes s (take i (stateOf s .points) ++ point x y z ∷ drop i (stateOf s .points)) r ⌝ }
 {
     let n = s.count;
     let xs = s.x;
     let ys = s.y;
     let zs = s.z;
-    let a = shift::put_u16(xs, i, x);
-    let b = shift::put_u16(ys, i, y);
-    let c = shift::put_i8(zs, i, z);
+    let a = shift::put_u16(xs, i, x as u16);
+    let b = shift::put_u16(ys, i, y as u16);
+    let c = shift::put_i8(zs, i, z as i8);
     let mut t = s;
     t.x = a;
     t.y = b;
@@ -46,14 +47,14 @@ pub(crate) fn without_point(s: Survey, i: usize) -> Survey
     t
 }
 
-// Another point at index i.
-pub(crate) fn with_value(s: Survey, i: usize, x: u16, y: u16, z: i8) -> Survey
-    requires { ⌜ (i < length (stateOf s .points)) × (x < 4096) × (y < 4096) ⌝ }
+// The point (x, y, z) in place of the one at index i.
+pub(crate) fn with_value(s: Survey, i: usize, x: u32, y: u32, z: i32) -> Survey
+    requires { ⌜ (i < length (stateOf s .points)) × Sound (point x y z) ⌝ }
     ensures { λ r. ⌜ Becomes s (set (stateOf s .points) i (point x y z)) r ⌝ }
 {
     let mut t = s;
-    t.x[i] = x;
-    t.y[i] = y;
-    t.z[i] = z;
+    t.x[i] = x as u16;
+    t.y[i] = y as u16;
+    t.z[i] = z as i8;
     t
 }

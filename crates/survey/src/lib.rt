@@ -5,7 +5,8 @@ ghost use mathlib.Core.Path.{_≡_};
 ghost use lib.ListN.{length};
 ghost use Rattle.model.specs.Point.{location};
 ghost use Rattle.model.specs.SurveyFile.{writtenInto};
-ghost use Rattle.model.specs.Calls.{Add, Change, Drop, Clear, Load, fresh as freshState};
+ghost use Rattle.model.specs.Calls.{Add, Change, Drop, Clear, Load, Lookup, refusal, fresh as freshState};
+ghost use Rattle.mean.specs.Answers.{AnswersAs};
 ghost use Rattle.survey_file.specs.Written.{writtenAs};
 ghost use Rattle.survey.specs.Held.{stateOf, Plain};
 ghost use Rattle.survey.specs.Replies.{Replies};
@@ -69,7 +70,7 @@ pub fn add(s: Survey, x: u32, y: u32, z: i32) -> Reply
         return refused(no, s);
     }
     let i = locate::rank(&s.x, &s.y, s.count, x, y);
-    let t = edits::with_point(s, i, x as u16, y as u16, z as i8);
+    let t = edits::with_point(s, i, x, y, z);
     Reply {
         refusal: no,
         survey: t,
@@ -85,7 +86,7 @@ pub fn change(s: Survey, x: u32, y: u32, z: i32) -> Reply
         return refused(no, s);
     }
     let i = locate::find(&s.x, &s.y, s.count, x, y);
-    let t = edits::with_value(s, i, x as u16, y as u16, z as i8);
+    let t = edits::with_value(s, i, x, y, z);
     Reply {
         refusal: no,
         survey: t,
@@ -150,6 +151,14 @@ pub fn write(s: Survey, out: &mut [u8]) -> Written
     survey_file::write(&s.x, &s.y, &s.z, s.count, out)
 }
 
+// The answer at a location where the lookup is accepted, and the neighbours that it goes by.
+fn answered(s: Survey, x: u32, y: u32) -> Answered
+    requires { ⌜ refusal (Lookup x y) (stateOf s) ≡ 0 ⌝ }
+    ensures { λ r. ⌜ AnswersAs (stateOf s) (location x y) r ⌝ }
+{
+    mean::answer_at(&s.x, &s.y, &s.z, s.count, x as u16, y as u16)
+}
+
 fn found(a: Answered) -> Answer
     ensures { λ r. ⌜ r ≡ Answer.Found (a .answer) (a .chosen .count) (a .chosen .radius) ⌝ }
 {
@@ -166,7 +175,7 @@ pub fn lookup(s: Survey, x: u32, y: u32) -> Answer
     if no != 0 {
         return Answer::Refused(no);
     }
-    let a = mean::answer_at(&s.x, &s.y, &s.z, s.count, x as u16, y as u16);
+    let a = answered(s, x, y);
     found(a)
 }
 
@@ -184,7 +193,7 @@ pub fn lookup_neighbours(s: Survey, x: u32, y: u32) -> AnswerWithNeighbours
             neighbours: none,
         };
     }
-    let a = mean::answer_at(&s.x, &s.y, &s.z, s.count, x as u16, y as u16);
+    let a = answered(s, x, y);
     let list = records::records_of(a.chosen);
     AnswerWithNeighbours {
         answer: found(a),

@@ -1,11 +1,10 @@
 -- `add` meets its contract: what it is refused for is the model's, and an accepted point goes where the model puts it.
-use mathlib.Core.Path.{_≡_, sym, _∙_}
-use native.Mathlib.Omega.{arith}
+use mathlib.Core.Path.{sym, _∙_}
 use mir.Facts.{toZ-ofZ}
-use Rattle.model.specs.Calls.{Add, refusal}
+use Rattle.model.specs.Calls.{Add}
 use Rattle.survey.specs.Held.{stateOf}
 use Rattle.survey.proofs.Replying.{reply-refused, reply-accepted}
-use Rattle.survey.proofs.Calling.{add-fits, add-room, rank-within, added}
+use Rattle.survey.proofs.Calling.{add-hands, rank-within, added}
 use Rattle.survey.proofs.add.Statement.{statement}
 use Rattle.survey.proofs.add.Tie as tie
 
@@ -26,42 +25,14 @@ returns c =
 rank-requires : tie.Need-rank-requires
 rank-requires c κs = tt
 
-cast-with-point : tie.Need-cast-with-point
-unfolding stateOf
-cast-with-point c =
-    let f = c .before .before .before .before in
-    let b = f .before .before .before .before .before in
-    let a = b .args in
-    let e : refusal (Add (a .x) (a .y) (a .z)) (stateOf (a .t1)) ≡ 0 = sym (rw (toZ-ofZ (b .fits .z)) at (f .before .of-add .ensures (a .t1 .z))) ∙ f .if1 .left in
-    omega (arith, add-fits (a .x) (a .y) (a .z) (stateOf (a .t1)) e .fits-x)
-
-cast-with-point-2 : tie.Need-cast-with-point-2
-unfolding stateOf
-cast-with-point-2 c =
-    let f = c .before .before .before .before in
-    let b = f .before .before .before .before .before in
-    let a = b .args in
-    let e : refusal (Add (a .x) (a .y) (a .z)) (stateOf (a .t1)) ≡ 0 = sym (rw (toZ-ofZ (b .fits .z)) at (f .before .of-add .ensures (a .t1 .z))) ∙ f .if1 .left in
-    omega (arith, add-fits (a .x) (a .y) (a .z) (stateOf (a .t1)) e .fits-y)
-
-cast-with-point-3 : tie.Need-cast-with-point-3
-unfolding stateOf
-cast-with-point-3 c =
-    let f = c .before .before .before .before in
-    let b = f .before .before .before .before .before in
-    let a = b .args in
-    let e : refusal (Add (a .x) (a .y) (a .z)) (stateOf (a .t1)) ≡ 0 = sym (rw (toZ-ofZ (b .fits .z)) at (f .before .of-add .ensures (a .t1 .z))) ∙ f .if1 .left in
-    rw (toZ-ofZ (b .fits .z)) (add-fits (a .x) (a .y) (a .z) (stateOf (a .t1)) e .fits-z)
-
 with-point-requires : tie.Need-with-point-requires
 unfolding stateOf
 with-point-requires c κs =
     let f = c .before .before .before .before in
     let b = f .before .before .before .before .before in
     let a = b .args in
-    let e : refusal (Add (a .x) (a .y) (a .z)) (stateOf (a .t1)) ≡ 0 = sym (rw (toZ-ofZ (b .fits .z)) at (f .before .of-add .ensures (a .t1 .z))) ∙ f .if1 .left in
-    let g = add-fits (a .x) (a .y) (a .z) (stateOf (a .t1)) e in
-    (rank-within (a .t1) (a .x) (a .y) _ (c .rank .ensures (a .t1 .z)), add-room (a .x) (a .y) (a .z) (stateOf (a .t1)) e, g .fits-x, g .fits-y)
+    let h = add-hands (a .x) (a .y) (a .z) (stateOf (a .t1)) (sym (rw (toZ-ofZ (b .fits .z)) at (f .before .of-add .ensures (a .t1 .z))) ∙ f .if1 .left) in
+    (rank-within (a .t1) (a .x) (a .y) _ (c .rank .ensures (a .t1 .z)), h .0, rw (toZ-ofZ (b .fits .z)) (h .1))
 
 returns-2 : tie.Need-returns-2
 unfolding stateOf
@@ -71,21 +42,10 @@ returns-2 c =
     let n = f .before in
     let b = n .before .before .before .before in
     let a = b .args in
-    let e = rw (toZ-ofZ (b .fits .z)) at (n .of-add .ensures (a .t1 .z)) in
-    let g = add-fits (a .x) (a .y) (a .z) (stateOf (a .t1)) (sym e ∙ f .if1 .left) in
-    let t = rw (toZ-ofZ (b .fits .z), toZ-ofZ (g .fits-z)) at (c .with-point .ensures) in
-    reply-accepted (Add (a .x) (a .y) (a .z)) (a .t1) _ _ e (f .if1 .left) (added (a .t1) (a .x) (a .y) _ (r .rank .ensures (a .t1 .z)) (a .z) _ t) (t .plain)
+    let t = rw (toZ-ofZ (b .fits .z)) at (c .with-point .ensures) in
+    reply-accepted (Add (a .x) (a .y) (a .z)) (a .t1) _ _ (rw (toZ-ofZ (b .fits .z)) at (n .of-add .ensures (a .t1 .z))) (f .if1 .left)
+    (added (a .t1) (a .x) (a .y) _ (r .rank .ensures (a .t1 .z)) (a .z) _ t) (t .plain)
 
 pub add-spec : {M : Type 1} → statement M
 add-spec =
-    tie.close
-    (tie.spec
-    of-add-requires
-    refused-requires
-    returns
-    rank-requires
-    cast-with-point
-    cast-with-point-2
-    cast-with-point-3
-    with-point-requires
-    returns-2)
+    tie.close (tie.spec of-add-requires refused-requires returns rank-requires with-point-requires returns-2)

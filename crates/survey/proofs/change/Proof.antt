@@ -1,11 +1,10 @@
 -- `change` meets its contract: what it is refused for is the model's, and an accepted value goes to the point that the model gives it to.
-use mathlib.Core.Path.{_≡_, sym, _∙_}
-use native.Mathlib.Omega.{arith}
+use mathlib.Core.Path.{sym, _∙_}
 use mir.Facts.{toZ-ofZ}
-use Rattle.model.specs.Calls.{Change, refusal}
+use Rattle.model.specs.Calls.{Change}
 use Rattle.survey.specs.Held.{stateOf}
 use Rattle.survey.proofs.Replying.{reply-refused, reply-accepted}
-use Rattle.survey.proofs.Calling.{change-fits, change-within, changed}
+use Rattle.survey.proofs.Calling.{change-hands, change-within, changed}
 use Rattle.survey.proofs.change.Statement.{statement}
 use Rattle.survey.proofs.change.Tie as tie
 
@@ -26,42 +25,14 @@ returns c =
 find-requires : tie.Need-find-requires
 find-requires c κs = tt
 
-cast-with-value : tie.Need-cast-with-value
-unfolding stateOf
-cast-with-value c =
-    let f = c .before .before .before .before in
-    let b = f .before .before .before .before .before in
-    let a = b .args in
-    let e : refusal (Change (a .x) (a .y) (a .z)) (stateOf (a .t1)) ≡ 0 = sym (rw (toZ-ofZ (b .fits .z)) at (f .before .of-change .ensures (a .t1 .z))) ∙ f .if1 .left in
-    omega (arith, change-fits (a .x) (a .y) (a .z) (stateOf (a .t1)) e .fits-x)
-
-cast-with-value-2 : tie.Need-cast-with-value-2
-unfolding stateOf
-cast-with-value-2 c =
-    let f = c .before .before .before .before in
-    let b = f .before .before .before .before .before in
-    let a = b .args in
-    let e : refusal (Change (a .x) (a .y) (a .z)) (stateOf (a .t1)) ≡ 0 = sym (rw (toZ-ofZ (b .fits .z)) at (f .before .of-change .ensures (a .t1 .z))) ∙ f .if1 .left in
-    omega (arith, change-fits (a .x) (a .y) (a .z) (stateOf (a .t1)) e .fits-y)
-
-cast-with-value-3 : tie.Need-cast-with-value-3
-unfolding stateOf
-cast-with-value-3 c =
-    let f = c .before .before .before .before in
-    let b = f .before .before .before .before .before in
-    let a = b .args in
-    let e : refusal (Change (a .x) (a .y) (a .z)) (stateOf (a .t1)) ≡ 0 = sym (rw (toZ-ofZ (b .fits .z)) at (f .before .of-change .ensures (a .t1 .z))) ∙ f .if1 .left in
-    rw (toZ-ofZ (b .fits .z)) (change-fits (a .x) (a .y) (a .z) (stateOf (a .t1)) e .fits-z)
-
 with-value-requires : tie.Need-with-value-requires
 unfolding stateOf
 with-value-requires c κs =
     let f = c .before .before .before .before in
     let b = f .before .before .before .before .before in
     let a = b .args in
-    let e : refusal (Change (a .x) (a .y) (a .z)) (stateOf (a .t1)) ≡ 0 = sym (rw (toZ-ofZ (b .fits .z)) at (f .before .of-change .ensures (a .t1 .z))) ∙ f .if1 .left in
-    let g = change-fits (a .x) (a .y) (a .z) (stateOf (a .t1)) e in
-    (change-within (a .t1) (a .x) (a .y) _ (c .find .ensures (a .t1 .z)) (a .z) e, g .fits-x, g .fits-y)
+    let e = sym (rw (toZ-ofZ (b .fits .z)) at (f .before .of-change .ensures (a .t1 .z))) ∙ f .if1 .left in
+    (change-within (a .t1) (a .x) (a .y) _ (c .find .ensures (a .t1 .z)) (a .z) e, rw (toZ-ofZ (b .fits .z)) (change-hands (a .x) (a .y) (a .z) (stateOf (a .t1)) e))
 
 returns-2 : tie.Need-returns-2
 unfolding stateOf
@@ -71,21 +42,10 @@ returns-2 c =
     let n = f .before in
     let b = n .before .before .before .before in
     let a = b .args in
-    let e = rw (toZ-ofZ (b .fits .z)) at (n .of-change .ensures (a .t1 .z)) in
-    let g = change-fits (a .x) (a .y) (a .z) (stateOf (a .t1)) (sym e ∙ f .if1 .left) in
-    let t = rw (toZ-ofZ (b .fits .z), toZ-ofZ (g .fits-z)) at (c .with-value .ensures) in
-    reply-accepted (Change (a .x) (a .y) (a .z)) (a .t1) _ _ e (f .if1 .left) (changed (a .t1) (a .x) (a .y) _ (r .find .ensures (a .t1 .z)) (a .z) _ t) (t .plain)
+    let t = rw (toZ-ofZ (b .fits .z)) at (c .with-value .ensures) in
+    reply-accepted (Change (a .x) (a .y) (a .z)) (a .t1) _ _ (rw (toZ-ofZ (b .fits .z)) at (n .of-change .ensures (a .t1 .z))) (f .if1 .left)
+    (changed (a .t1) (a .x) (a .y) _ (r .find .ensures (a .t1 .z)) (a .z) _ t) (t .plain)
 
 pub change-spec : {M : Type 1} → statement M
 change-spec =
-    tie.close
-    (tie.spec
-    of-change-requires
-    refused-requires
-    returns
-    find-requires
-    cast-with-value
-    cast-with-value-2
-    cast-with-value-3
-    with-value-requires
-    returns-2)
+    tie.close (tie.spec of-change-requires refused-requires returns find-requires with-value-requires returns-2)
