@@ -1,22 +1,16 @@
--- The record bytes of points that arrays hold, one more point at a time, and how many they are.
+-- The file of points that arrays hold, as records and trailer, and how many bytes it has.
 use mathlib.Core.Path.{_≡_}
 use Prim.Native.Nat.{ℕ, _+_, _*_, min}
-use mathlib.Core.List.{List, _++_, map, flatMap, map-append}
-use lib.IntN.{ℤ, pos}
-use lib.ListN.{length, getD, length-append, length-map}
-use Rattle.model.specs.Point.{point}
+use mathlib.Core.List.{List, _++_, map}
+use lib.IntN.{ℤ}
+use lib.ListN.{length, length-append, length-map}
 use Rattle.model.specs.Bytes.{bytes2, bytes4, total}
-use Rattle.model.specs.SurveyFile.{recordBytes, records, fileOf, magic}
-use Rattle.laws.proofs.ListLaws.{tabulate-more, flatMap-append}
+use Rattle.model.specs.SurveyFile.{records, fileOf, magic}
 use Rattle.laws.proofs.RecordLaws.{length-records}
 use Rattle.columns.specs.Columns.{held, wrapped, pointsIn}
 use Rattle.columns.proofs.HeldLaws.{length-held}
 
 module _ (x y : List ℕ) (z : List ℤ) (n : ℕ) where
-  pub records-more : records (map wrapped (held x y z (n + 1))) ≡ records (map wrapped (held x y z n)) ++ recordBytes (wrapped (point (getD x n 0) (getD y n 0) (getD z n (pos 0))))
-  unfolding records held flatMap
-  records-more = rw (tabulate-more, map-append, flatMap-append)
-
   pub length-records-held : length (records (map wrapped (held x y z n))) ≡ 5 * n
   length-records-held = rw (length-records, length-map, length-held)
 

@@ -2,8 +2,5 @@
 pub mod Stores
 pub mod Encoded
 pub mod Outcome
-pub mod Ends
-pub mod RankLaws
-pub mod Records
-pub mod Passed
+pub mod Given
 pub mod SameSurvey

@@ -1,4 +1,3 @@
 -- The definitions that the contracts of this crate cite.
-pub mod Rank
 pub mod Reading
 pub mod Written

@@ -1,8 +1,4 @@
 // The survey file: from bytes to arrays of points, by the trailer at the end, and back.
-mod decode;
-mod encode;
-mod magic;
-
 ghost use mathlib.Core.Path.{_≡_};
 ghost use lib.ListN.{length};
 ghost use Rattle.model.specs.SurveyFile.{writtenInto};
@@ -25,18 +21,45 @@ pub enum Written {
     Refused(u8),
 }
 
+// An empty reading, with the refusal's number.
+fn refused(no: u8) -> Reading
+    ensures { λ r. ⌜ (r .refusal ≡ no) × (r .count ≡ 0) ⌝ }
+{
+    Reading {
+        refusal: no,
+        x: [0u16; 256],
+        y: [0u16; 256],
+        z: [0i8; 256],
+        count: 0,
+    }
+}
+
 // Reads a survey file: refusals 9 to 15.
 pub fn read(file: &[u8]) -> Reading
     ensures { λ r. ⌜ ReadsAs (now (file .entry)) r ⌝ }
 {
-    let no = decode::check_trailer(file);
+    let no = trailer::check(file);
     if no != 0 {
-        return decode::refused(no);
+        return refused(no);
     }
     let end = file.len() - 12;
     let count = numbers::word_at(file, end);
     let start = end - 5 * count;
-    decode::records(&file[start..end], count)
+    let p = record_points::read(&file[start..end], count);
+    let fault = p.refusal;
+    if fault != 0 {
+        return refused(fault);
+    }
+    let x = p.x;
+    let y = p.y;
+    let z = p.z;
+    Reading {
+        refusal: 0,
+        x,
+        y,
+        z,
+        count,
+    }
 }
 
 // Writes the file of the points to the front of the lent bytes: refusal 8 where they are too few.
@@ -55,9 +78,9 @@ pub fn write<'a>(
     if out.len() < end + 12 {
         return Written::Refused(8);
     }
-    encode::records(x, y, z, n, &mut out[..end]);
+    record_bytes::write(x, y, z, n, &mut out[..end]);
     let sum = numbers::total(&out[..end]);
-    let t = encode::trailer(n, sum);
+    let t = trailer::of_records(n, sum);
     bytes::copy(&t, &mut out[end..]);
     Written::Length(end + 12)
 }

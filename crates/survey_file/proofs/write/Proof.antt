@@ -5,7 +5,6 @@ use Prim.Native.Nat.{_+_, _-_, _*_, _≤_}
 use native.Mathlib.Omega.{arith}
 use lib.ListN.{length, drop, length-append, length-drop}
 use lib.Seq.{length-take-le, take-at}
-use borrow.Author.Needs.{needs}
 use Rattle.model.specs.SurveyFile.{records, magic}
 use Rattle.columns.specs.Columns.{surveyIn, held, wrapped}
 use Rattle.survey_file.specs.declared.Written.the-variants.{Length}
@@ -16,7 +15,7 @@ use Rattle.survey_file.proofs.write.Statement.{statement}
 use Rattle.survey_file.proofs.write.Tie as tie
 
 clamped-requires : tie.Need-clamped-requires
-clamped-requires c κs = search needs
+clamped-requires c κs = tt
 
 mul-end : tie.Need-mul-end
 mul-end c = omega arith
@@ -31,14 +30,14 @@ returns c =
     let w = too-long (surveyIn (a .x .now) (a .y .now) (a .z .now) (a .count)) (a .out .now) (omega arith) in
     (sym (w .0), sym (w .1))
 
-slice-relend-prefix-records : tie.Need-slice-relend-prefix-records
-slice-relend-prefix-records c = omega arith
+slice-relend-prefix-write : tie.Need-slice-relend-prefix-write
+slice-relend-prefix-write c = omega arith
 
-slice-aggregate-records : tie.Need-slice-aggregate-records
-slice-aggregate-records c = sym (length-take-le _ _ (slice-relend-prefix-records (c .before)))
+slice-aggregate-write : tie.Need-slice-aggregate-write
+slice-aggregate-write c = sym (length-take-le _ _ (slice-relend-prefix-write (c .before)))
 
-records-requires : tie.Need-records-requires
-records-requires c κs = (search needs, sym (slice-aggregate-records c))
+write-requires : tie.Need-write-requires
+write-requires c κs = (omega arith, sym (slice-aggregate-write c))
 
 slice-reshare-prefix-total : tie.Need-slice-reshare-prefix-total
 slice-reshare-prefix-total c = omega arith
@@ -49,8 +48,8 @@ slice-aggregate-total c = sym (length-take-le _ _ (slice-reshare-prefix-total (c
 total-requires : tie.Need-total-requires
 total-requires c κs = omega (arith, slice-aggregate-total c)
 
-trailer-requires : tie.Need-trailer-requires
-trailer-requires c κs = search needs
+of-records-requires : tie.Need-of-records-requires
+of-records-requires c κs = omega arith
 
 slice-aggregate-copy : tie.Need-slice-aggregate-copy
 slice-aggregate-copy c = omega arith
@@ -65,7 +64,7 @@ part-copy-end : tie.Need-part-copy-end
 part-copy-end c = omega arith
 
 copy-requires : tie.Need-copy-requires
-copy-requires c κs = search needs
+copy-requires c κs = omega arith
 
 add-t10 : tie.Need-add-t10
 add-t10 c = omega arith
@@ -86,9 +85,9 @@ returns-2 c =
     let long = length-file-in (a .x .now) (a .y .now) (a .z .now) (k .result) (a .count) (k .ensures) in
     let file = file-in (a .x .now) (a .y .now) (a .z .now) (k .result) (a .count) (k .ensures) in
     let o = fitting (surveyIn (a .x .now) (a .y .now) (a .z .now) (a .count)) d (omega arith) in
-    let body = w .records .ensures in
+    let body = w .write .ensures in
     let sum = rw (body, take-at r (drop end d) end sized) at (v .before .total .ensures) in
-    let last = rw (v .trailer .ensures) at (c .before .before .copy .ensures .1) in
+    let last = rw (v .of-records .ensures) at (c .before .before .copy .ensures .1) in
     let lent : length d ≤ end + (length (r ++ drop end d) - end) = omega (arith, length-append r (drop end d), length-drop end d) in (
       ap Length (sym long) ∙ sym (o .0),
       rw (o .1, file, last, sum, body) (laid-after end (length (r ++ drop end d) - end) r (_ ∷ _ ∷ _ ∷ _ ∷ _ ∷ _ ∷ _ ∷ _ ∷ magic) d sized lent),
@@ -102,13 +101,13 @@ write-spec =
     mul-end
     add-if1
     returns
-    slice-relend-prefix-records
-    slice-aggregate-records
-    records-requires
+    slice-relend-prefix-write
+    slice-aggregate-write
+    write-requires
     slice-reshare-prefix-total
     slice-aggregate-total
     total-requires
-    trailer-requires
+    of-records-requires
     slice-aggregate-copy
     sub-copy
     part-copy-start
