@@ -1,5 +1,6 @@
 -- `load` meets its contract: of an accepted file the arrays hold the points, and they are read as they stand.
-use mathlib.Core.Path.{ap, _∙_}
+use mathlib.Core.Path.{_≡_, ap, _∙_}
+use native.Mathlib.Omega.{arith}
 use Rattle.model.specs.Point.{surveyOf}
 use Rattle.model.specs.Calls.{Load, refusal, accepted}
 use Rattle.survey_file.proofs.SameSurvey.{accepted-points, read-invariant, read-as-held}
@@ -19,18 +20,18 @@ unfolding refusal
 returns c =
     let f = c .before .before .before in
     let a = f .before .before .args in
-    reply-refused (Load (a .file .now)) (a .s) _ _ (f .read .ensures .refusal) (c .before .if1 .taken) (c .refused .ensures)
+    reply-refused (Load (a .file .now)) (a .s) _ _ (f .read .ensures .refusal) (λ e. omega (arith, e)) (c .refused .ensures)
 
 returns-2 : tie.Need-returns-2
 unfolding refusal accepted stateOf Plain
 returns-2 c =
-    let k = c .before .before .before in
-    let f = k .before .before in
+    let f = c .before .before .before .before .before in
     let a = f .before .before .args in
     let r = f .read .result in
-    let same = read-as-held (r .x) (r .y) (r .z) (r .count) (read-invariant (a .file .now) r (f .read .ensures) (k .if1 .left)) in
-    reply-accepted (Load (a .file .now)) (a .s) _ _ (f .read .ensures .refusal) (k .if1 .left)
-    (ap surveyOf (same ∙ accepted-points (a .file .now) r (f .read .ensures) (k .if1 .left) .1)) (λ _. same)
+    let none : r .refusal ≡ 0 = omega arith in
+    let same = read-as-held (r .x) (r .y) (r .z) (r .count) (read-invariant (a .file .now) r (f .read .ensures) none) in
+    reply-accepted (Load (a .file .now)) (a .s) _ _ (f .read .ensures .refusal) none
+    (ap surveyOf (same ∙ accepted-points (a .file .now) r (f .read .ensures) none .1)) (λ _. same)
 
 pub load-spec : {M : Type 1} → statement M
 load-spec = tie.close (tie.spec read-requires refused-requires returns returns-2)

@@ -10,7 +10,10 @@ use Rattle.survey.proofs.edits.with_value.Statement.{statement}
 use Rattle.survey.proofs.edits.with_value.Tie as tie
 
 cast-t : tie.Need-cast-t
-cast-t c = let a = c .args in omega (arith, sound-fits (a .x) (a .y) (a .z) (c .pre .1) .fits-x)
+cast-t c =
+    let a = c .args in
+    let f = sound-fits (a .x) (a .y) (a .z) (c .pre .1) in
+    omega (arith, f .fits-x, f .fits-y)
 
 mul-t : tie.Need-mul-t
 mul-t c = omega (arith, points-held (c .args .s), c .pre .0)
@@ -19,7 +22,10 @@ element-write-t : tie.Need-element-write-t
 element-write-t c = omega (arith, points-held (c .args .s), c .pre .0)
 
 cast-t-2 : tie.Need-cast-t-2
-cast-t-2 c = let a = c .args in omega (arith, sound-fits (a .x) (a .y) (a .z) (c .pre .1) .fits-y)
+cast-t-2 c =
+    let a = c .args in
+    let f = sound-fits (a .x) (a .y) (a .z) (c .pre .1) in
+    omega (arith, f .fits-x, f .fits-y)
 
 mul-t-2 : tie.Need-mul-t-2
 mul-t-2 c = omega (arith, points-held (c .args .s), c .pre .0)
