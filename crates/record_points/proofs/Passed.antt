@@ -13,26 +13,21 @@ use Rattle.model.specs.Bytes.{wordAt, signed}
 use Rattle.model.specs.SurveyFile.{pointsOf, fault}
 use Rattle.columns.specs.Columns.{held}
 use Rattle.columns.proofs.HeldLaws.{held-set}
+use Rattle.columns.proofs.EditLaws.{Sized}
 use Rattle.record_points.specs.declared.Points.{Points}
 use Rattle.record_points.specs.Rank.{rank, faultBy, faultFrom}
 use Rattle.record_points.proofs.RankLaws.{fault-rank}
 use Rattle.record_points.proofs.Records.{points-step, points-end}
 
--- arrays of 256 places
-pub record Sized (r : Points) : Type 0 where
-  pub long-x : length (r .x) ≡ 256
-  pub long-y : length (r .y) ≡ 256
-  pub long-z : length (r .z) ≡ 256
-
 -- the first i of `count` records are in the arrays, and what is left decides on the fault
 pub record Passed (s : List ℕ) (count : ℕ) (r : Points) (least i : ℕ) : Type 0 where
   pub within : i ≤ count
-  pub sized : Sized r
+  pub sized : Sized (r .x) (r .y) (r .z)
   pub accepted : r .refusal ≡ 0
   pub left : fault (pointsOf s) ≡ faultFrom least (pointsOf (drop (5 * i) s))
   pub so-far : held (r .x) (r .y) (r .z) i ++ pointsOf (drop (5 * i) s) ≡ pointsOf s
 
-pub at-start : (s : List ℕ) (count : ℕ) (r : Points) → Sized r → r .refusal ≡ 0 → Passed s count r 0 0
+pub at-start : (s : List ℕ) (count : ℕ) (r : Points) → Sized (r .x) (r .y) (r .z) → r .refusal ≡ 0 → Passed s count r 0 0
 unfolding held tabulate
 at-start s count r z e = record { within = omega arith; sized = z; accepted = e; left = fault-rank (pointsOf s); so-far = refl }
 
@@ -78,9 +73,9 @@ module _ (s : List ℕ) (count : ℕ) (r : Points) (least i : ℕ) (p : Passed s
         record {
           within = omega arith;
           sized = record {
-            long-x = rw (tx, length-set) (sized .long-x);
-            long-y = rw (ty, length-set) (sized .long-y);
-            long-z = rw (tz, length-set) (sized .long-z);
+            x = rw (tx, length-set) (sized .x);
+            y = rw (ty, length-set) (sized .y);
+            z = rw (tz, length-set) (sized .z);
           };
           accepted = er ∙ p .accepted;
           left = rw next (here ∙ passes-on (inDomain x y) (ltb (rank x y) least) _ none);

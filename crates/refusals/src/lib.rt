@@ -4,7 +4,7 @@ ghost use mathlib.Core.List.{List};
 ghost use Prim.Native.Nat.{ℕ};
 ghost use lib.IntN.{ℤ};
 ghost use Rattle.model.specs.Point.{inDomain, inRange};
-ghost use Rattle.model.specs.Calls.{Add, Change, Drop, Lookup, taken, refusal};
+ghost use Rattle.model.specs.Calls.{Add, Change, Drop, Lookup, taken, onDomain, withinRange, refusal};
 ghost use Rattle.columns.specs.Columns.{pointsIn, surveyIn};
 
 fn is_in_domain(x: u32, y: u32) -> bool
@@ -25,6 +25,19 @@ fn is_in_range(z: i32) -> bool
     false
 }
 
+// 1 or 2, or 0: of a location and a value, whatever the points are.
+fn of_values(x: u32, y: u32, z: i32) -> u8
+    ensures { λ r. ⌜ r ≡ onDomain x y (withinRange z 0) ⌝ }
+{
+    if !is_in_domain(x, y) {
+        return 1;
+    }
+    if !is_in_range(z) {
+        return 2;
+    }
+    0
+}
+
 fn is_taken<'a>(xs: &'a [u16; 256], ys: &'a [u16; 256], n: usize, x: u32, y: u32) -> bool
     ensures { λ r. ⌜ ((zs : List ℤ) → r ≡ taken x y (pointsIn (now (xs .entry)) (now (ys .entry)) zs n)) ⌝ }
 {
@@ -34,11 +47,9 @@ fn is_taken<'a>(xs: &'a [u16; 256], ys: &'a [u16; 256], n: usize, x: u32, y: u32
 pub fn of_add<'a>(xs: &'a [u16; 256], ys: &'a [u16; 256], n: usize, x: u32, y: u32, z: i32) -> u8
     ensures { λ r. ⌜ ((zs : List ℤ) → r ≡ refusal (Add x y z) (surveyIn (now (xs .entry)) (now (ys .entry)) zs n)) ⌝ }
 {
-    if !is_in_domain(x, y) {
-        return 1;
-    }
-    if !is_in_range(z) {
-        return 2;
+    let no = of_values(x, y, z);
+    if no != 0 {
+        return no;
     }
     if is_taken(xs, ys, n, x, y) {
         return 3;
@@ -52,11 +63,9 @@ pub fn of_add<'a>(xs: &'a [u16; 256], ys: &'a [u16; 256], n: usize, x: u32, y: u
 pub fn of_change<'a>(xs: &'a [u16; 256], ys: &'a [u16; 256], n: usize, x: u32, y: u32, z: i32) -> u8
     ensures { λ r. ⌜ ((zs : List ℤ) → r ≡ refusal (Change x y z) (surveyIn (now (xs .entry)) (now (ys .entry)) zs n)) ⌝ }
 {
-    if !is_in_domain(x, y) {
-        return 1;
-    }
-    if !is_in_range(z) {
-        return 2;
+    let no = of_values(x, y, z);
+    if no != 0 {
+        return no;
     }
     if !is_taken(xs, ys, n, x, y) {
         return 4;
