@@ -2,6 +2,7 @@
 pub mod Tests
 pub mod ListLaws
 pub mod MapLaws
+pub mod Stores
 pub mod Insertions
 pub mod IntLaws
 pub mod DiffLaws
@@ -23,3 +24,4 @@ pub mod RoundTrip
 pub mod CallLaws
 pub mod HistoryInvariant
 pub mod DropLaws
+pub mod GridLaws

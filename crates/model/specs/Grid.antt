@@ -2,10 +2,11 @@
 use Prim.Native.Nat.{ℕ, zero, suc, _+_, _-_, _*_}
 use mathlib.Core.Bool.{Bool, cond, _&&_}
 use mathlib.Core.List.{List, [], _++_}
-use lib.Dec.{leb}
+use lib.Dec.{leb, eqb}
 use lib.IntN.{ℤ}
-use Rattle.model.specs.Lists.{tabulate}
-use Rattle.model.specs.Point.{State, location}
+use lib.ListN.{length}
+use Rattle.model.specs.Lists.{tabulate, laid}
+use Rattle.model.specs.Point.{Location, State, location}
 use Rattle.model.specs.Answer.{answer}
 use Rattle.model.specs.Calls.{nonEmpty, enough}
 
@@ -35,10 +36,14 @@ gridCheck g s n = cond (proper g) (nonEmpty s n) 7
 unfoldable pub gridRefusal : Grid → State → ℕ → ℕ
 gridRefusal g s n = gridCheck g s (enough n (cellCount g))
 
--- row r, counted from 0: x ascending
+-- where column c and row r, counted from 0, are
+abbrev pub cellLocation : Grid → ℕ → ℕ → Location
+cellLocation g c r = location (g .x0 + c * g .stepX) (g .y0 + r * g .stepY)
+
+-- row r: x ascending
 unfoldable pub row : State → Grid → ℕ → List ℤ
 unfolding answer tabulate
-row s g r = tabulate (λ c. answer s (location (g .x0 + c * g .stepX) (g .y0 + r * g .stepY))) (g .columns)
+row s g r = tabulate (λ c. answer s (cellLocation g c r)) (g .columns)
 
 -- the first n rows: y ascending
 unfoldable pub rowsOf : State → Grid → ℕ → List ℤ
@@ -49,3 +54,8 @@ rowsOf s g (suc n) = rowsOf s g n ++ row s g n
 unfoldable pub cells : State → Grid → List ℤ
 unfolding rowsOf
 cells s g = rowsOf s g (g .rows)
+
+-- what lent cells hold after it: the grid's at their front, or, refused, what they held
+unfoldable pub cellsInto : State → Grid → List ℤ → List ℤ
+unfolding gridRefusal cells
+cellsInto s g d = cond (eqb (gridRefusal g s (length d)) 0) (laid (cells s g) d) d

@@ -1,8 +1,11 @@
 -- The grid file: document 01, "Grid and grid file".
 use Prim.Native.Nat.{ℕ, _+_, _*_}
+use mathlib.Core.Bool.{cond}
 use mathlib.Core.List.{List, [], _∷_, _++_, flatMap}
+use lib.Dec.{eqb}
 use lib.IntN.{ℤ}
 use lib.ListN.{length}
+use Rattle.model.specs.Lists.{laid}
 use Rattle.model.specs.Point.{State}
 use Rattle.model.specs.Bytes.{bytes2, bytes4, complement}
 use Rattle.model.specs.Calls.{enough}
@@ -23,10 +26,18 @@ unfoldable pub cellsBytes : List ℤ → List ℕ
 unfolding flatMap
 cellsBytes l = flatMap cellBytes l
 
--- the cells, the six numbers, bytes from these back to the first cell, the magic
+-- what follows n bytes of cells: the six numbers, bytes from these back to the first cell, the magic
+abbrev pub gridTrailer : Grid → ℕ → List ℕ
+gridTrailer g n = sixNumbers g ++ bytes4 n ++ gridMagic
+
+-- the file of a grid and its cells
+unfoldable pub fileOfCells : Grid → List ℤ → List ℕ
+unfolding cellsBytes
+fileOfCells g l = cellsBytes l ++ gridTrailer g (length (cellsBytes l))
+
 unfoldable pub gridFile : State → Grid → List ℕ
-unfolding cells cellsBytes
-gridFile s g = cellsBytes (cells s g) ++ sixNumbers g ++ bytes4 (length (cellsBytes (cells s g))) ++ gridMagic
+unfolding cells fileOfCells
+gridFile s g = fileOfCells g (cells s g)
 
 abbrev pub gridFileLength : Grid → ℕ
 gridFileLength g = 2 * cellCount g + 20
@@ -34,3 +45,8 @@ gridFileLength g = 2 * cellCount g + 20
 -- writing it into n lent bytes
 unfoldable pub gridFileRefusal : Grid → State → ℕ → ℕ
 gridFileRefusal g s n = gridCheck g s (enough n (gridFileLength g))
+
+-- what lent bytes hold after it: the file at their front, or, refused, what they held
+unfoldable pub gridFileInto : State → Grid → List ℕ → List ℕ
+unfolding gridFileRefusal gridFile
+gridFileInto s g d = cond (eqb (gridFileRefusal g s (length d)) 0) (laid (gridFile s g) d) d

@@ -77,6 +77,17 @@ pub fn complement_of(z: i8) -> u8
     }
 }
 
+// A value as a number of two bytes in two's complement.
+pub fn complement_word(a: i16) -> u16
+    ensures { λ r. ⌜ r ≡ complement 32768 a ⌝ }
+{
+    if a < 0 {
+        65535 - ((-1 - a) as u16)
+    } else {
+        a as u16
+    }
+}
+
 // The difference of two numbers, whichever is the greater.
 pub fn gap(m: u64, n: u64) -> u64
     ensures { λ r. ⌜ r ≡ gapOf m n ⌝ }

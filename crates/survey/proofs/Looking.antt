@@ -15,7 +15,7 @@ use Rattle.mean.specs.declared.Answered.{Answered}
 use Rattle.mean.specs.Answers.{AnswersAs}
 use Rattle.survey.specs.declared.Answer.{Answer}
 use Rattle.survey.specs.declared.Answer.the-variants.{Found, Refused}
-use Rattle.survey.specs.Answers.{lookedUp, Rounded, tenRecords}
+use Rattle.survey.specs.Answers.{found, lookedUp, Rounded, tenRecords}
 
 module _ (s : State) (x y : ℕ) where
   pub lookup-bounds : refusal (Lookup x y) s ≡ 0 → (x < 4096) × (y < 4096) × (0 < length (s .points))
@@ -38,6 +38,10 @@ module _ (s : State) (x y : ℕ) where
     records-refused = rw (neighbours-refusal, ← e, ne-eqb n 0 h)
 
   module _ (e : refusal (Lookup x y) s ≡ 0) where
+    pub looked-up : lookedUp s x y ≡ found s (location x y)
+    unfolding lookedUp
+    looked-up = rw (eq-eqb (refusal (Lookup x y) s) 0 e)
+
     pub looked-found : (a : Answered) (r : Answer) → r ≡ Found (a .answer) (a .chosen .count) (a .chosen .radius) → AnswersAs s (location x y) a
         → (r ≡ lookedUp s x y) × Rounded s (location x y) r
     unfolding lookedUp Rounded

@@ -52,6 +52,13 @@ pub fn fresh() -> Survey
     }
 }
 
+// How many points are present.
+pub fn count(s: Survey) -> usize
+    ensures { λ r. ⌜ r ≡ length (stateOf s .points) ⌝ }
+{
+    columns::clamped(s.count)
+}
+
 fn refused(no: u8, s: Survey) -> Reply
     ensures { λ r. ⌜ (r .refusal ≡ no) × (r .survey ≡ s) ⌝ }
 {

@@ -1,5 +1,4 @@
 -- Facts that the proofs of this crate share, and its theorems: SameSurvey.
-pub mod Stores
 pub mod Encoded
 pub mod Outcome
 pub mod Given

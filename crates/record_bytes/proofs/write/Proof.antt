@@ -12,8 +12,9 @@ use mir.Facts.{toZ-ofZ}
 use borrow.Author.Needs.{needs}
 use Rattle.model.specs.Lists.{tabulate}
 use Rattle.model.specs.SurveyFile.{records}
+use Rattle.laws.proofs.Stores.{take-laid}
 use Rattle.columns.specs.Columns.{held, wrapped}
-use Rattle.record_bytes.proofs.Encoded.{records-more, take-laid}
+use Rattle.record_bytes.proofs.Encoded.{records-more}
 use Rattle.record_bytes.proofs.write.Statement.{statement}
 use Rattle.record_bytes.proofs.write.Tie as tie
 

@@ -9,7 +9,7 @@ use Rattle.model.specs.SurveyFile.{records, magic}
 use Rattle.columns.specs.Columns.{surveyIn, held, wrapped}
 use Rattle.survey_file.specs.declared.Written.the-variants.{Length}
 use Rattle.survey_file.proofs.Encoded.{length-records-held, file-in, length-file-in}
-use Rattle.survey_file.proofs.Stores.{laid-after}
+use Rattle.laws.proofs.Stores.{laid-after}
 use Rattle.survey_file.proofs.Outcome.{too-long, fitting}
 use Rattle.survey_file.proofs.write.Statement.{statement}
 use Rattle.survey_file.proofs.write.Tie as tie

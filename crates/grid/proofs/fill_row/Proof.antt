@@ -1,0 +1,122 @@
+-- `fill_row` meets its contract: every lookup is accepted, and finds the next cell's value.
+-- The loop's invariant: the cells up to c hold the values of the first c columns.
+use mathlib.Core.Path.{_≡_, refl, sym, ap, _∙_}
+use Prim.Native.Nat.{_+_, _-_, _≤_, _<_}
+use native.Mathlib.Omega.{arith}
+use lib.ListN.{length, take, set, length-set}
+use lib.Seq.{take-all}
+use mir.Syntax.{w16}
+use mir.Val.{SFits}
+use mir.Facts.{toZ-ofZ}
+use borrow.Author.Needs.{needs}
+use Rattle.model.specs.Lists.{tabulate}
+use Rattle.model.specs.Grid.{row}
+use Rattle.laws.proofs.GridLaws.{proper-axes}
+use Rattle.survey.specs.Held.{stateOf}
+use Rattle.grid_rules.specs.Held.{gridOf}
+use Rattle.grid.proofs.Rows.{cellAt, cell-more}
+use Rattle.grid.proofs.Looked.{finds, not-refused}
+use Rattle.grid.proofs.fill_row.Statement.{statement}
+use Rattle.grid.proofs.fill_row.Tie as tie
+
+abbrev Inv-loop : tie.InvT-loop
+Inv-loop s g r out₀ y c₀ out c = (c ≤ length out) × (length out ≡ g .columns) × (take c out ≡ tabulate (cellAt (stateOf s) (gridOf g) r) c)
+
+abbrev μ-loop : tie.MeasureT-loop
+μ-loop s g r out₀ y c₀ out c = length out - c
+
+coordinate-requires : tie.Need-coordinate-requires Inv-loop μ-loop
+coordinate-requires c κs = let a = proper-axes (gridOf (c .args .g)) (c .pre .0) in omega (arith, a .1 .few, c .pre .2)
+
+loop-holds : tie.Need-loop-holds Inv-loop μ-loop
+unfolding tabulate
+loop-holds c = (omega arith, c .before .pre .3, refl)
+
+coordinate-requires-2 : tie.Need-coordinate-requires-2 Inv-loop μ-loop
+coordinate-requires-2 c κs =
+    let b = c .before .before .before in
+    let a = proper-axes (gridOf (b .args .g)) (b .pre .0) in
+    omega (arith, a .0 .few)
+
+lookup-requires : tie.Need-lookup-requires Inv-loop μ-loop
+lookup-requires c κs = tt
+
+enum-known-found : tie.Need-enum-known-found Inv-loop μ-loop
+enum-known-found c = search needs
+
+enum-told : tie.Need-enum-told Inv-loop μ-loop
+enum-told c = search needs
+
+same-length : tie.Need-same-length Inv-loop μ-loop
+same-length c = search needs
+
+returns : tie.Need-returns Inv-loop μ-loop
+returns c =
+    let q = c .before .before in
+    let l = q .before .before .before .loop in
+    let y = q .before .before .before .before .coordinate in
+    let b = q .before .before .before .before .before in
+    let a = b .args in
+    absurd
+    (not-refused (stateOf (a .s)) (gridOf (a .g)) (l .c) (a .r) (q .before .coordinate2 .result) (y .result) (b .pre .0) (b .pre .1) (omega arith) (b .pre .2) (q .before .coordinate2 .ensures)
+    (y .ensures) (q .lookup .result) (q .lookup .ensures .0) _ (c .enum-told .given .1))
+
+mul-answer : tie.Need-mul-answer Inv-loop μ-loop
+mul-answer c = search needs
+
+slice-set-from-answer : tie.Need-slice-set-from-answer Inv-loop μ-loop
+slice-set-from-answer c = omega arith
+
+add-c : tie.Need-add-c Inv-loop μ-loop
+add-c c = omega arith
+
+loop-less : tie.Need-loop-less Inv-loop μ-loop
+loop-less c = simp length-set (omega arith)
+
+loop-again : tie.Need-loop-again Inv-loop μ-loop
+loop-again c =
+    let q = c .before .before .before in
+    let l = q .before .before .before .loop in
+    let y = q .before .before .before .before .coordinate in
+    let b = q .before .before .before .before .before in
+    let a = b .args in
+    let g = c .before .found .given in
+    let f : SFits w16 (g .0 .0) = search needs in
+    let e =
+    finds (stateOf (a .s)) (gridOf (a .g)) (l .c) (a .r) (q .before .coordinate2 .result) (y .result) (b .pre .0) (b .pre .1) (omega arith) (b .pre .2) (q .before .coordinate2 .ensures)
+    (y .ensures) (q .lookup .result) (q .lookup .ensures .0) (g .0 .0) (g .0 .1 .0) (g .0 .1 .1 .0) (g .1) in
+    (simp length-set (omega arith), simp length-set (omega arith), rw (toZ-ofZ f, e) (cell-more (stateOf (a .s)) (gridOf (a .g)) (a .r) (l .c) (l .out) (omega arith) (l .inv .2)))
+
+same-length-2 : tie.Need-same-length-2 Inv-loop μ-loop
+same-length-2 c = search needs
+
+returns-2 : tie.Need-returns-2 Inv-loop μ-loop
+unfolding row
+returns-2 c =
+    let l = c .before .loop in
+    let b = c .before .before .before in
+    let a = b .args in
+    let k : l .c ≡ a .g .columns = omega arith in
+    sym (take-all (l .c) (l .out) (omega arith)) ∙ l .inv .2 ∙ ap (tabulate (cellAt (stateOf (a .s)) (gridOf (a .g)) (a .r))) k
+
+pub fill-row-spec : {M : Type 1} → statement M
+fill-row-spec =
+    tie.close
+    (tie.spec
+    Inv-loop
+    μ-loop
+    coordinate-requires
+    loop-holds
+    coordinate-requires-2
+    lookup-requires
+    enum-known-found
+    enum-told
+    same-length
+    returns
+    mul-answer
+    slice-set-from-answer
+    add-c
+    loop-less
+    loop-again
+    same-length-2
+    returns-2)

@@ -1,0 +1,74 @@
+// A grid's six numbers, their rules, and why a grid is refused: document 01, "Grid and grid file".
+ghost use mathlib.Core.Path.{_≡_};
+ghost use Prim.Native.Nat.{_+_, _*_, _<_};
+ghost use lib.ListN.{length};
+ghost use Rattle.model.specs.Point.{State};
+ghost use Rattle.model.specs.Calls.{enough};
+ghost use Rattle.model.specs.Grid.{axis, proper, cellCount, gridCheck};
+ghost use Rattle.grid_rules.specs.Held.{gridOf};
+
+// The first column and row stand at (x0, y0), the others a step apart.
+pub struct Grid {
+    pub x0: u16,
+    pub y0: u16,
+    pub step_x: u16,
+    pub step_y: u16,
+    pub columns: u16,
+    pub rows: u16,
+}
+
+// Where place i of an axis is, counted from 0; it may lie past 16 bits.
+pub fn coordinate(start: u16, step: u16, i: usize) -> u32
+    requires { ⌜ i < 64 ⌝ }
+    ensures { λ r. ⌜ r ≡ start + i * step ⌝ }
+{
+    start as u32 + i as u32 * step as u32
+}
+
+// Whether the places of one axis keep the rules.
+fn is_axis(start: u16, step: u16, places: u16) -> bool
+    ensures { λ r. ⌜ r ≡ axis start step places ⌝ }
+{
+    if step < 1 {
+        return false;
+    }
+    if places < 1 {
+        return false;
+    }
+    if 64 < places {
+        return false;
+    }
+    let last = places as usize - 1;
+    coordinate(start, step, last) <= 4095
+}
+
+fn is_proper(g: Grid) -> bool
+    ensures { λ r. ⌜ r ≡ proper (gridOf g) ⌝ }
+{
+    if is_axis(g.x0, g.step_x, g.columns) {
+        return is_axis(g.y0, g.step_y, g.rows);
+    }
+    false
+}
+
+pub fn cell_count(g: Grid) -> usize
+    ensures { λ r. ⌜ (r ≡ cellCount (gridOf g)) × (r < 4294967296) ⌝ }
+{
+    g.columns as usize * g.rows as usize
+}
+
+// Refusals 7, 6, 8, or 0: of a grid over `present` points that needs so many cells or bytes, where `lent` of them are lent.
+pub fn refusal(g: Grid, present: usize, lent: usize, needed: usize) -> u8
+    ensures { λ r. ⌜ ((s : State) → length (s .points) ≡ present → r ≡ gridCheck (gridOf g) s (enough lent needed)) ⌝ }
+{
+    if !is_proper(g) {
+        return 7;
+    }
+    if present == 0 {
+        return 6;
+    }
+    if lent < needed {
+        return 8;
+    }
+    0
+}

@@ -1,0 +1,99 @@
+-- A grid that keeps the rules lies in the domain; what an accepted one has passed; and how many cells and bytes it has.
+use mathlib.Core.Path.{_≡_, refl}
+use Prim.Native.Nat.{ℕ, zero, suc, _+_, _-_, _*_, _≤_, _<_}
+use native.Mathlib.Nat.{mul-le-mul, mul-le-mul-left, mul-le-mul-right}
+use native.Mathlib.Omega.{arith}
+use mathlib.Core.Bool.{true, _&&_, and-eq-true-iff}
+use mathlib.Core.List.{List, [], _∷_, flatMap}
+use lib.Dec.{ltb, leb, eqb}
+use lib.IntN.{ℤ}
+use lib.ListN.{length, length-append}
+use borrow.Author.Tests.{ltb-false, leb-true, eqb-false, lt-ltb, ne-eqb}
+use Rattle.model.specs.Point.{State}
+use Rattle.model.specs.Answer.{answer}
+use Rattle.model.specs.Calls.{Lookup, refusal, nonEmpty, enough}
+use Rattle.model.specs.Grid.{Grid, axis, proper, cellCount, gridCheck, cellLocation, row, rowsOf, cells}
+use Rattle.model.specs.GridFile.{cellsBytes, gridTrailer, fileOfCells, gridFile, gridFileLength}
+use Rattle.laws.proofs.ListLaws.{length-tabulate}
+use Rattle.laws.proofs.Tests.{cond-zero, cond-sound}
+
+-- an axis that keeps the rules
+pub record Axis (start step places : ℕ) : Type 0 where
+  pub apart : 1 ≤ step
+  pub some : 1 ≤ places
+  pub few : places ≤ 64
+  pub last : start + (places - 1) * step ≤ 4095
+
+pub axis-keeps : (start step places : ℕ) → axis start step places ≡ true → Axis start step places
+axis-keeps start step places h =
+    let a = and-eq-true-iff (leb 1 step && leb 1 places && leb places 64) (leb (start + (places - 1) * step) 4095) .0 h in
+    let b = and-eq-true-iff (leb 1 step && leb 1 places) (leb places 64) .0 (a .0) in
+    let c = and-eq-true-iff (leb 1 step) (leb 1 places) .0 (b .0) in
+    record { apart = leb-true 1 step (c .0); some = leb-true 1 places (c .1); few = leb-true places 64 (b .1); last = leb-true (start + (places - 1) * step) 4095 (a .1) }
+
+pub axis-inside : (start step places i : ℕ) → Axis start step places → i < places → start + i * step < 4096
+axis-inside start step places i a h =
+    let m : i * step ≤ (places - 1) * step = mul-le-mul-right step (omega arith) in
+    omega (arith, m, a .last)
+
+pub proper-axes : (g : Grid) → proper g ≡ true → Axis (g .x0) (g .stepX) (g .columns) × Axis (g .y0) (g .stepY) (g .rows)
+proper-axes g h =
+    let a = and-eq-true-iff (axis (g .x0) (g .stepX) (g .columns)) (axis (g .y0) (g .stepY) (g .rows)) .0 h in
+    (axis-keeps (g .x0) (g .stepX) (g .columns) (a .0), axis-keeps (g .y0) (g .stepY) (g .rows) (a .1))
+
+pub grid-accepted : (g : Grid) (s : State) (n : ℕ) → gridCheck g s n ≡ 0 → (proper g ≡ true) × (0 < length (s .points)) × (n ≡ 0)
+grid-accepted g s n h =
+    let rules = cond-sound (proper g) 6 (nonEmpty s n) h in
+    let some = cond-zero (eqb (length (s .points)) 0) 5 n (rules .1) in
+    (rules .0, omega (arith, eqb-false (length (s .points)) 0 (some .0)), some .1)
+
+-- a lookup where a cell is, is accepted
+pub cell-accepted : (s : State) (g : Grid) (c r : ℕ) → proper g ≡ true → 0 < length (s .points) → c < g .columns → r < g .rows
+    → refusal (Lookup (cellLocation g c r .x) (cellLocation g c r .y)) s ≡ 0
+unfolding refusal
+cell-accepted s g c r h some hc hr =
+    let a = proper-axes g h in
+    let x = axis-inside (g .x0) (g .stepX) (g .columns) c (a .0) hc in
+    let y = axis-inside (g .y0) (g .stepY) (g .rows) r (a .1) hr in
+    rw (lt-ltb (g .x0 + c * g .stepX) 4096 x, lt-ltb (g .y0 + r * g .stepY) 4096 y, ne-eqb (length (s .points)) 0 (omega arith))
+
+module _ (s : State) (g : Grid) where
+  pub length-row : (r : ℕ) → length (row s g r) ≡ g .columns
+  unfolding row
+  length-row r = length-tabulate (λ c. answer s (cellLocation g c r)) (g .columns)
+
+  pub length-rows : (n : ℕ) → length (rowsOf s g n) ≡ g .columns * n
+  unfolding rowsOf
+  length-rows zero = omega arith
+  length-rows (suc n) = omega (arith, length-append (rowsOf s g n) (row s g n), length-rows n, length-row n)
+
+  pub length-cells : length (cells s g) ≡ cellCount g
+  unfolding cells
+  length-cells = length-rows (g .rows)
+
+pub length-cells-bytes : (l : List ℤ) → length (cellsBytes l) ≡ 2 * length l
+unfolding cellsBytes flatMap
+length-cells-bytes [] = refl
+length-cells-bytes (a ∷ l) = omega (arith, length-cells-bytes l)
+
+pub length-file-of-cells : (g : Grid) (l : List ℤ) → length (fileOfCells g l) ≡ 2 * length l + 20
+unfolding fileOfCells
+length-file-of-cells g l = omega (arith, length-append (cellsBytes l) (gridTrailer g (length (cellsBytes l))), length-cells-bytes l)
+
+pub length-grid-file : (s : State) (g : Grid) → length (gridFile s g) ≡ gridFileLength g
+unfolding gridFile
+length-grid-file s g = omega (arith, length-file-of-cells g (cells s g), length-cells s g)
+
+-- at most 4,096 cells, and the end of a row that there is lies within them
+pub few-cells : (g : Grid) → proper g ≡ true → cellCount g ≤ 4096
+few-cells g h = let a = proper-axes g h in mul-le-mul (a .0 .few) (a .1 .few)
+
+pub row-within : (g : Grid) (r : ℕ) → r < g .rows → g .columns * r + g .columns ≤ cellCount g
+row-within g r h =
+    let m : g .columns * (r + 1) ≤ g .columns * g .rows = mul-le-mul-left (g .columns) (omega arith) in
+    omega (arith, m)
+
+pub grid-fits : (g : Grid) (s : State) (lent needed : ℕ) → gridCheck g s (enough lent needed) ≡ 0 → (proper g ≡ true) × (0 < length (s .points)) × (needed ≤ lent)
+grid-fits g s lent needed h =
+    let a = grid-accepted g s (enough lent needed) h in
+    (a .0, a .1, ltb-false lent needed (cond-zero (ltb lent needed) 7 0 (a .2) .0))

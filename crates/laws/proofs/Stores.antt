@@ -1,0 +1,34 @@
+-- What a list holds once a part of it was written over.
+use mathlib.Core.Path.{_≡_}
+use Prim.Native.Nat.{ℕ, _+_, _≤_}
+use native.Mathlib.Omega.{arith}
+use mathlib.Core.List.{List, _++_, append-assoc, append-nil}
+use lib.ListN.{length, take, drop, length-append, length-drop, drop-of-length-le}
+use lib.Seq.{take-at, drop-at, take-all, drop-drop, length-take-le}
+use borrow.Rule.Slice.PartMut.{midOf, postOf, putMid}
+use Rattle.model.specs.Lists.{laid}
+
+-- a list up to the end of its part from a on, which was written over
+pub take-over : {A : Type 0} (a k : ℕ) (l vs : List A) → a ≤ length l → take (a + length vs) (putMid a k l vs) ≡ take a l ++ vs
+take-over a k l vs h =
+    let e : length (take a l ++ vs) ≡ a + length vs = omega (arith, length-append (take a l) vs, length-take-le a l h) in
+    rw (← append-assoc (take a l) vs) (take-at (take a l ++ vs) (postOf a k l) (a + length vs) e)
+
+-- a list up to the end of what was written to the front of its part from a on
+pub take-laid : {A : Type 0} (a k : ℕ) (l vs : List A) → a ≤ length l → take (a + length vs) (putMid a k l (laid vs (midOf a k l))) ≡ take a l ++ vs
+take-laid a k l vs h =
+    let rest = drop (length vs) (midOf a k l) in
+    let e : length (take a l ++ vs) ≡ a + length vs = omega (arith, length-append (take a l) vs, length-take-le a l h) in
+    rw (append-assoc vs rest (postOf a k l), ← append-assoc (take a l) vs) (take-at (take a l ++ vs) (rest ++ postOf a k l) (a + length vs) e)
+
+-- what was written to the front of the part after p, once p was written to the front of d, stands after p
+pub laid-after : {A : Type 0} (a k : ℕ) (p r d : List A) → length p ≡ a → length d ≤ a + k
+    → putMid a k (p ++ drop a d) (laid r (midOf a k (p ++ drop a d))) ≡ laid (p ++ r) d
+laid-after a k p r d e h =
+    let g : length (drop a d) ≤ k = omega (arith, length-drop a d) in
+    let t : length (p ++ r) ≡ a + length r = omega (arith, length-append p r) in
+    rw (take-at p (drop a d) a e, drop-at p (drop a d) a e, take-all k (drop a d) g, drop-of-length-le (drop a d) g, drop-drop, append-nil, t, append-assoc p r (drop (a + length r) d))
+
+-- what was written over a whole list is all that it holds
+pub laid-whole : {A : Type 0} (b d : List A) → length d ≤ length b → laid b d ≡ b
+laid-whole b d h = rw (drop-of-length-le d h, append-nil)

@@ -1,0 +1,28 @@
+// Text to standard output: words, numbers in decimal, bytes in hexadecimal. Where a write fails there is nobody to tell, and the rest is written all the same.
+use libc::STDOUT_FILENO;
+
+pub fn word(w: &[u8]) {
+    io::write_all(STDOUT_FILENO, w);
+}
+
+pub fn space() {
+    word(&[b' ']);
+}
+
+pub fn line_feed() {
+    word(&[b'\n']);
+}
+
+pub fn number(n: u64) {
+    io::print_decimal(STDOUT_FILENO, n);
+}
+
+pub fn signed(a: i16) {
+    let n = numbers::complement_word(a);
+    if 32768 <= n {
+        word(&[b'-']);
+        number(65536 - n as u64);
+        return;
+    }
+    number(n as u64);
+}
