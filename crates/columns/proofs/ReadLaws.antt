@@ -1,11 +1,9 @@
 -- Points as arrays are read: as many as the count says, at most 256, in the domain whatever the arrays hold, and in range where the values are.
 use mathlib.Core.Path.{_≡_, _∙_}
 use Prim.Native.Nat.{ℕ, _+_, _%_, _<_, min}
-use native.Mathlib.Nat.{eq-or-lt-of-le}
 use native.Mathlib.Omega.{arith}
 use mathlib.Core.Bool.{true, and-eq-true-iff}
 use mathlib.Core.List.{List}
-use mathlib.Core.Logic.{⊎-elim}
 use lib.Dec.{ltb}
 use lib.IntN.{ℤ, pos}
 use lib.ListN.{length, getD, length-map}
@@ -15,6 +13,7 @@ use mir.Val.{SFits}
 use Rattle.model.specs.Lists.{All}
 use Rattle.model.specs.Point.{Point, point, inDomain, inRange}
 use Rattle.model.specs.Invariant.{Sound}
+use Rattle.laws.proofs.Tests.{below-more}
 use Rattle.laws.proofs.ValueLaws.{byte-range}
 use Rattle.laws.proofs.ListLaws.{all-map, all-tabulate, getD-tabulate}
 use Rattle.laws.proofs.MapLaws.{map-tabulate}
@@ -45,11 +44,7 @@ in-range-none zs i l = absurd (omega arith)
 
 -- a value that was read fits eight bits
 pub in-range-more : (zs : List ℤ) (n : ℕ) → SFits w8 (getD zs n (pos 0)) → InRange zs n → InRange zs (n + 1)
-in-range-more zs n f h i l =
-    ⊎-elim
-    (λ (e : i ≡ n). rw e (byte-range (getD zs n (pos 0)) (f .sfits)))
-    (λ (k : i < n). h i k)
-    (eq-or-lt-of-le {n = i} {m = n} (omega arith))
+in-range-more zs n f h = below-more (λ (i : ℕ). inRange (getD zs i (pos 0)) ≡ true) n h (byte-range (getD zs n (pos 0)) (f .sfits))
 
 pub points-sound : (xs ys : List ℕ) (zs : List ℤ) (n : ℕ) → InRange zs (min n 256) → All Sound (pointsIn xs ys zs n)
 unfolding pointsIn held

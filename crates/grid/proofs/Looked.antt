@@ -1,26 +1,32 @@
--- A lookup where a cell is finds the cell's value.
-use mathlib.Core.Path.{_≡_, _∙_}
+-- A lookup where a cell is finds the cell's value, and what holds of its rounding holds of the cell's.
+use mathlib.Core.Path.{_≡_}
 use mathlib.Core.Bool.{true}
 use Prim.Native.Nat.{ℕ, _<_}
 use native.Mathlib.Omega.{arith}
 use lib.IntN.{ℤ}
 use lib.ListN.{length}
-use Rattle.model.specs.Point.{State}
+use Rattle.model.specs.Point.{Location, State, location}
+use Rattle.model.specs.Answer.{answer}
 use Rattle.model.specs.Grid.{Grid, proper, cellLocation}
 use Rattle.laws.proofs.GridLaws.{cell-accepted}
 use Rattle.survey.specs.declared.Answer.{Answer}
 use Rattle.survey.specs.declared.Answer.the-variants.{Found, Refused}
-use Rattle.survey.specs.Answers.{found, lookedUp}
+use Rattle.survey.specs.Answers.{found, lookedUp, Rounded}
 use Rattle.survey.proofs.Looking.{looked-up}
-use Rattle.grid.proofs.Rows.{cellAt}
+use Rattle.grid.proofs.Rows.{CellRight}
 
-module _ (s : State) (g : Grid) (c r x y : ℕ) (rules : proper g ≡ true) (some : 0 < length (s .points)) (hc : c < g .columns) (hr : r < g .rows)
-    (ex : x ≡ cellLocation g c r .x) (ey : y ≡ cellLocation g c r .y) (q : Answer) (e : q ≡ lookedUp s x y) where
-  here : q ≡ found s (cellLocation g c r)
-  here = e ∙ rw (ex, ey) (looked-up s (cellLocation g c r .x) (cellLocation g c r .y) (cell-accepted s g c r rules some hc hr))
+module _ (s : State) (g : Grid) (c r : ℕ) (rules : proper g ≡ true) (some : 0 < length (s .points)) (hc : c < g .columns) (hr : r < g .rows) where
+  pub cell-found : (x y : ℕ) (q : Answer) → x ≡ cellLocation g c r .x → y ≡ cellLocation g c r .y → (q ≡ lookedUp s x y) × Rounded s (location x y) q
+      → (q ≡ found s (cellLocation g c r)) × CellRight s g r c
+  unfolding Rounded
+  cell-found x y q ex ey h =
+      let e = looked-up s (cellLocation g c r .x) (cellLocation g c r .y) (cell-accepted s g c r rules some hc hr) in
+      let here = rw (ex, ey, e) at (h .0) in
+      (here, rw (here, ex, ey) at (h .1))
 
-  pub finds : (a : ℤ) (n k : ℕ) → q ≡ Found a n k → a ≡ cellAt s g r c
-  finds a n k f = let h = here in cc
+module _ (s : State) (p : Location) (q : Answer) (here : q ≡ found s p) where
+  pub finds : (a : ℤ) (n k : ℕ) → q ≡ Found a n k → a ≡ answer s p
+  finds a n k f = cc
 
   pub not-refused : (n : ℕ) → q ≡ Refused n → ⊥
-  not-refused n f = let h = here in let z : _≡_ {A = ℕ} 0 1 = cc in absurd (omega arith)
+  not-refused n f = let z : _≡_ {A = ℕ} 0 1 = cc in absurd (omega arith)

@@ -10,6 +10,7 @@ use lib.Seq.{take-suc-set}
 use borrow.Rule.Slice.PartMut.{putMid, same-len-mid, mid-len}
 use Rattle.model.specs.Lists.{tabulate}
 use Rattle.model.specs.Point.{State}
+use Rattle.model.specs.Mean.{Right}
 use Rattle.model.specs.Answer.{answer}
 use Rattle.model.specs.Grid.{Grid, cellLocation, row, rowsOf}
 use Rattle.laws.proofs.ListLaws.{tabulate-more}
@@ -18,6 +19,10 @@ use Rattle.laws.proofs.GridLaws.{length-row}
 
 abbrev pub cellAt : State → Grid → ℕ → ℕ → ℤ
 cellAt s g r c = answer s (cellLocation g c r)
+
+-- what holds of a cell's rounding
+abbrev pub CellRight : State → Grid → ℕ → ℕ → Type 0
+CellRight s g r c = Right s (cellLocation g c r) (cellAt s g r c)
 
 pub cell-more : (s : State) (g : Grid) (r c : ℕ) (l : List ℤ) → c < length l → take c l ≡ tabulate (cellAt s g r) c
     → take (c + 1) (set l c (cellAt s g r c)) ≡ tabulate (cellAt s g r) (c + 1)

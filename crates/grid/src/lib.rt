@@ -7,7 +7,7 @@ ghost use Rattle.model.specs.Grid.{proper, cellCount, row, cells as cellsOf, ce
 ghost use Rattle.model.specs.GridFile.{gridFile, gridFileLength, gridFileInto};
 ghost use Rattle.grid_rules.specs.Held.{gridOf};
 ghost use Rattle.survey.specs.Held.{stateOf};
-ghost use Rattle.grid.specs.Outcome.{filledAs, writtenAs};
+ghost use Rattle.grid.specs.Outcome.{RowRight, CellsRight, filledAs, FilledRight, writtenAs, WrittenRight};
 pub use grid_rules::Grid;
 use survey::Answer;
 use survey::Survey;
@@ -23,6 +23,7 @@ pub enum Filled {
 fn fill_row(s: Survey, g: Grid, r: usize, out: &mut [i16])
     requires { ⌜ (proper (gridOf g) ≡ true) × (0 < length (stateOf s .points)) × (r < g .rows) × (length (now out) ≡ g .columns) ⌝ }
     ensures { λ _. ⌜ now (out .exit) ≡ row (stateOf s) (gridOf g) r ⌝ }
+    ensures { λ _. ⌜ RowRight (stateOf s) (gridOf g) r ⌝ }
 {
     let y = grid_rules::coordinate(g.y0, g.step_y, r);
     let mut c = 0usize;
@@ -41,6 +42,7 @@ fn fill_row(s: Survey, g: Grid, r: usize, out: &mut [i16])
 fn fill(s: Survey, g: Grid, out: &mut [i16])
     requires { ⌜ (proper (gridOf g) ≡ true) × (0 < length (stateOf s .points)) × (length (now out) ≡ cellCount (gridOf g)) ⌝ }
     ensures { λ _. ⌜ now (out .exit) ≡ cellsOf (stateOf s) (gridOf g) ⌝ }
+    ensures { λ _. ⌜ CellsRight (stateOf s) (gridOf g) ⌝ }
 {
     let columns = g.columns as usize;
     let mut r = 0usize;
@@ -57,6 +59,7 @@ fn fill(s: Survey, g: Grid, out: &mut [i16])
 pub fn cells(s: Survey, g: Grid, out: &mut [i16]) -> Filled
     ensures { λ r. ⌜ r ≡ filledAs (stateOf s) (gridOf g) (length (now (out .entry))) ⌝ }
     ensures { λ _. ⌜ now (out .exit) ≡ cellsInto (stateOf s) (gridOf g) (now (out .entry)) ⌝ }
+    ensures { λ r. ⌜ FilledRight (stateOf s) (gridOf g) r ⌝ }
 {
     let n = grid_rules::cell_count(g);
     let no = grid_rules::refusal(g, survey::count(s), out.len(), n);
@@ -78,6 +81,7 @@ fn blank() -> [i16; 4096]
 fn encode(s: Survey, g: Grid, out: &mut [u8])
     requires { ⌜ (proper (gridOf g) ≡ true) × (0 < length (stateOf s .points)) × (length (now out) ≡ gridFileLength (gridOf g)) ⌝ }
     ensures { λ _. ⌜ now (out .exit) ≡ gridFile (stateOf s) (gridOf g) ⌝ }
+    ensures { λ _. ⌜ CellsRight (stateOf s) (gridOf g) ⌝ }
 {
     let n = grid_rules::cell_count(g);
     let mut values = blank();
@@ -89,6 +93,7 @@ fn encode(s: Survey, g: Grid, out: &mut [u8])
 pub fn write(s: Survey, g: Grid, out: &mut [u8]) -> Written
     ensures { λ r. ⌜ r ≡ writtenAs (stateOf s) (gridOf g) (length (now (out .entry))) ⌝ }
     ensures { λ _. ⌜ now (out .exit) ≡ gridFileInto (stateOf s) (gridOf g) (now (out .entry)) ⌝ }
+    ensures { λ r. ⌜ WrittenRight (stateOf s) (gridOf g) r ⌝ }
 {
     let n = grid_rules::cell_count(g);
     let len = 2 * n + 20;

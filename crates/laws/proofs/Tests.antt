@@ -1,7 +1,9 @@
--- What tests joined by `||` and `cond` tell of their parts, and what holds of a `cond`.
-use mathlib.Core.Path.{_≡_, refl}
-use Prim.Native.Nat.{ℕ, suc}
+-- What tests joined by `||` and `cond` tell of their parts, what holds of a `cond`, and of every number below the next.
+use mathlib.Core.Path.{_≡_, refl, sym, subst}
+use Prim.Native.Nat.{ℕ, suc, _+_, _<_}
+use native.Mathlib.Nat.{eq-or-lt-of-le}
 use native.Mathlib.Omega.{arith}
+use mathlib.Core.Logic.{⊎-elim}
 use mathlib.Core.Bool.{Bool, true, false, cond, _||_}
 
 pub or-true : (a b : Bool) → b ≡ true → a || b ≡ true
@@ -25,3 +27,11 @@ cond-zero false k n h = (refl, h)
 pub cond-sound : (t : Bool) (k n : ℕ) → cond t n (suc k) ≡ 0 → (t ≡ true) × (n ≡ 0)
 cond-sound true k n h = (refl, h)
 cond-sound false k n h = absurd (omega arith)
+
+-- what holds of every number below n, and of n
+pub below-more : (P : ℕ → Type 0) (n : ℕ) → ((i : ℕ) → i < n → P i) → P n → (i : ℕ) → i < n + 1 → P i
+below-more P n h p i l =
+    ⊎-elim
+    (λ (e : i ≡ n). subst P (sym e) p)
+    (λ (k : i < n). h i k)
+    (eq-or-lt-of-le {n = i} {m = n} (omega arith))

@@ -62,8 +62,9 @@ returns-2 c =
     let a = r .before .before .before .args in
     let n = r .before .before .cell-count in
     let no = rw (n .ensures .0) at (r .refusal .ensures (stateOf (a .s)) (sym (r .before .count .ensures))) in
-    let o = cells-filled (stateOf (a .s)) (gridOf (a .g)) (a .out .now) (sym no ∙ e .if1 .left) in
-    rw (c .before .fill .ensures, n .ensures .0) o
+    let f = c .before .fill .ensures in
+    let o = cells-filled (stateOf (a .s)) (gridOf (a .g)) (a .out .now) (sym no ∙ e .if1 .left) (f .1) in
+    rw (f .0, n .ensures .0) o
 
 pub cells-spec : {M : Type 1} → statement M
 cells-spec =

@@ -40,7 +40,7 @@ array-share-prefix-values c =
     let n = v .before .cell-count in
     let a = v .before .before .before .args in
     let l = cells (stateOf (a .s)) (gridOf (a .g)) in
-    rw (c .before .fill .ensures) (omega (arith, length-append l (drop (n .result) (v .blank .result)), length-cells (stateOf (a .s)) (gridOf (a .g)), n .ensures .0))
+    rw (c .before .fill .ensures .0) (omega (arith, length-append l (drop (n .result) (v .blank .result)), length-cells (stateOf (a .s)) (gridOf (a .g)), n .ensures .0))
 
 slice-aggregate-write : tie.Need-slice-aggregate-write
 slice-aggregate-write c = sym (length-take-le _ _ (array-share-prefix-values (c .before)))
@@ -66,7 +66,8 @@ returns c =
     let s = stateOf (a .s) in
     let g = gridOf (a .g) in
     let front = take-at (cells s g) (drop (n .result) (v .blank .result)) (n .result) (length-cells s g ∙ sym (n .ensures .0)) in
-    rw (w .write .ensures, w .before .before .before .before .fill .ensures, front)
+    let f = w .before .before .before .before .fill .ensures in
+    (rw (w .write .ensures, f .0, front), f .1)
 
 pub encode-spec : {M : Type 1} → statement M
 encode-spec =

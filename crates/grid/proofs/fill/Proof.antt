@@ -1,15 +1,17 @@
 -- `fill` meets its contract. The loop's invariant: the cells up to `at` are those of the first r rows.
 use mathlib.Core.Path.{_≡_, refl, sym, ap, _∙_}
-use Prim.Native.Nat.{ℕ, _+_, _-_, _*_, _≤_}
+use Prim.Native.Nat.{ℕ, _+_, _-_, _*_, _≤_, _<_}
 use native.Mathlib.Omega.{arith}
 use lib.ListN.{length, take}
 use lib.Seq.{take-all}
 use borrow.Author.Needs.{needs}
 use borrow.Rule.Slice.PartMut.{mid-len}
 use Rattle.model.specs.Grid.{rowsOf, cells}
+use Rattle.laws.proofs.Tests.{below-more}
 use Rattle.laws.proofs.GridLaws.{few-cells, row-within}
 use Rattle.survey.specs.Held.{stateOf}
 use Rattle.grid_rules.specs.Held.{gridOf}
+use Rattle.grid.specs.Outcome.{RowRight}
 use Rattle.grid.proofs.Rows.{row-length, row-more}
 use Rattle.grid.proofs.fill.Statement.{statement}
 use Rattle.grid.proofs.fill.Tie as tie
@@ -17,6 +19,7 @@ use Rattle.grid.proofs.fill.Tie as tie
 abbrev Inv-loop : tie.InvT-loop
 Inv-loop s g out₀ columns r₀ at₀ out r at =
     (r ≤ g .rows) × (at ≡ g .columns * r) × (length out ≡ g .columns * g .rows) × (take at out ≡ rowsOf (stateOf s) (gridOf g) r)
+    × ((i : ℕ) → i < r → RowRight (stateOf s) (gridOf g) i)
 
 abbrev μ-loop : tie.MeasureT-loop
 μ-loop s g out₀ columns r₀ at₀ out r at = g .rows - r
@@ -26,7 +29,7 @@ cast-columns c = search needs
 
 loop-holds : tie.Need-loop-holds Inv-loop μ-loop
 unfolding rowsOf
-loop-holds c = (omega arith, omega arith, c .before .pre .2, refl)
+loop-holds c = (omega arith, omega arith, c .before .pre .2, refl, λ i l. absurd (omega arith))
 
 cast-if1 : tie.Need-cast-if1 Inv-loop μ-loop
 cast-if1 c = search needs
@@ -73,8 +76,9 @@ loop-again c =
     let s = stateOf (b .args .s) in
     let g = gridOf (b .args .g) in
     let w = row-within g (l .r) (c .before .before .before .if1 .taken) in
-    rw (c .before .fill-row .ensures)
-    (omega arith, omega arith, row-length s g (l .r) (l .at) (l .out) (omega (arith, w)) ∙ l .inv .2, row-more s g (l .r) (l .at) (l .out) (omega (arith, w)) (l .inv .3))
+    let f = c .before .fill-row .ensures in
+    rw (f .0)
+    (omega arith, omega arith, row-length s g (l .r) (l .at) (l .out) (omega (arith, w)) ∙ l .inv .2, row-more s g (l .r) (l .at) (l .out) (omega (arith, w)) (l .inv .3), below-more (RowRight s g) (l .r) (l .inv .4) (f .1))
 
 same-length : tie.Need-same-length Inv-loop μ-loop
 same-length c = omega arith
@@ -86,7 +90,7 @@ returns c =
     let a = c .before .before .before .before .args in
     let k : l .r ≡ a .g .rows = omega arith in
     let e = ap (λ (n : ℕ). a .g .columns * n) k in
-    sym (take-all (l .at) (l .out) (omega (arith, e))) ∙ l .inv .3 ∙ ap (rowsOf (stateOf (a .s)) (gridOf (a .g))) k
+    (sym (take-all (l .at) (l .out) (omega (arith, e))) ∙ l .inv .3 ∙ ap (rowsOf (stateOf (a .s)) (gridOf (a .g))) k, λ i h. l .inv .4 i (omega arith))
 
 pub fill-spec : {M : Type 1} → statement M
 fill-spec =

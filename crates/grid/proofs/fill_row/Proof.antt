@@ -1,7 +1,7 @@
 -- `fill_row` meets its contract: every lookup is accepted, and finds the next cell's value.
 -- The loop's invariant: the cells up to c hold the values of the first c columns.
 use mathlib.Core.Path.{_≡_, refl, sym, ap, _∙_}
-use Prim.Native.Nat.{_+_, _-_, _≤_, _<_}
+use Prim.Native.Nat.{ℕ, _+_, _-_, _≤_, _<_}
 use native.Mathlib.Omega.{arith}
 use lib.ListN.{length, take, set, length-set}
 use lib.Seq.{take-all}
@@ -10,17 +10,20 @@ use mir.Val.{SFits}
 use mir.Facts.{toZ-ofZ}
 use borrow.Author.Needs.{needs}
 use Rattle.model.specs.Lists.{tabulate}
-use Rattle.model.specs.Grid.{row}
+use Rattle.model.specs.Grid.{cellLocation, row}
+use Rattle.laws.proofs.Tests.{below-more}
 use Rattle.laws.proofs.GridLaws.{proper-axes}
 use Rattle.survey.specs.Held.{stateOf}
 use Rattle.grid_rules.specs.Held.{gridOf}
-use Rattle.grid.proofs.Rows.{cellAt, cell-more}
-use Rattle.grid.proofs.Looked.{finds, not-refused}
+use Rattle.grid.proofs.Rows.{cellAt, CellRight, cell-more}
+use Rattle.grid.proofs.Looked.{cell-found, finds, not-refused}
 use Rattle.grid.proofs.fill_row.Statement.{statement}
 use Rattle.grid.proofs.fill_row.Tie as tie
 
 abbrev Inv-loop : tie.InvT-loop
-Inv-loop s g r out₀ y c₀ out c = (c ≤ length out) × (length out ≡ g .columns) × (take c out ≡ tabulate (cellAt (stateOf s) (gridOf g) r) c)
+Inv-loop s g r out₀ y c₀ out c =
+    (c ≤ length out) × (length out ≡ g .columns) × (take c out ≡ tabulate (cellAt (stateOf s) (gridOf g) r) c)
+    × ((i : ℕ) → i < c → CellRight (stateOf s) (gridOf g) r i)
 
 abbrev μ-loop : tie.MeasureT-loop
 μ-loop s g r out₀ y c₀ out c = length out - c
@@ -30,7 +33,7 @@ coordinate-requires c κs = let a = proper-axes (gridOf (c .args .g)) (c .pre .0
 
 loop-holds : tie.Need-loop-holds Inv-loop μ-loop
 unfolding tabulate
-loop-holds c = (omega arith, c .before .pre .3, refl)
+loop-holds c = (omega arith, c .before .pre .3, refl, λ i l. absurd (omega arith))
 
 coordinate-requires-2 : tie.Need-coordinate-requires-2 Inv-loop μ-loop
 coordinate-requires-2 c κs =
@@ -57,9 +60,10 @@ returns c =
     let y = q .before .before .before .before .coordinate in
     let b = q .before .before .before .before .before in
     let a = b .args in
-    absurd
-    (not-refused (stateOf (a .s)) (gridOf (a .g)) (l .c) (a .r) (q .before .coordinate2 .result) (y .result) (b .pre .0) (b .pre .1) (omega arith) (b .pre .2) (q .before .coordinate2 .ensures)
-    (y .ensures) (q .lookup .result) (q .lookup .ensures .0) _ (c .enum-told .given .1))
+    let s = stateOf (a .s) in
+    let g = gridOf (a .g) in
+    let here = cell-found s g (l .c) (a .r) (b .pre .0) (b .pre .1) (omega arith) (b .pre .2) _ _ _ (q .before .coordinate2 .ensures) (y .ensures) (q .lookup .ensures) in
+    absurd (not-refused s (cellLocation g (l .c) (a .r)) (q .lookup .result) (here .0) _ (c .enum-told .given .1))
 
 mul-answer : tie.Need-mul-answer Inv-loop μ-loop
 mul-answer c = search needs
@@ -80,12 +84,17 @@ loop-again c =
     let y = q .before .before .before .before .coordinate in
     let b = q .before .before .before .before .before in
     let a = b .args in
-    let g = c .before .found .given in
-    let f : SFits w16 (g .0 .0) = search needs in
-    let e =
-    finds (stateOf (a .s)) (gridOf (a .g)) (l .c) (a .r) (q .before .coordinate2 .result) (y .result) (b .pre .0) (b .pre .1) (omega arith) (b .pre .2) (q .before .coordinate2 .ensures)
-    (y .ensures) (q .lookup .result) (q .lookup .ensures .0) (g .0 .0) (g .0 .1 .0) (g .0 .1 .1 .0) (g .1) in
-    (simp length-set (omega arith), simp length-set (omega arith), rw (toZ-ofZ f, e) (cell-more (stateOf (a .s)) (gridOf (a .g)) (a .r) (l .c) (l .out) (omega arith) (l .inv .2)))
+    let s = stateOf (a .s) in
+    let g = gridOf (a .g) in
+    let here = cell-found s g (l .c) (a .r) (b .pre .0) (b .pre .1) (omega arith) (b .pre .2) _ _ _ (q .before .coordinate2 .ensures) (y .ensures) (q .lookup .ensures) in
+    let v = c .before .found .given in
+    let f : SFits w16 (v .0 .0) = search needs in
+    let e = finds s (cellLocation g (l .c) (a .r)) (q .lookup .result) (here .0) (v .0 .0) (v .0 .1 .0) (v .0 .1 .1 .0) (v .1) in (
+      simp length-set (omega arith),
+      simp length-set (omega arith),
+      rw (toZ-ofZ f, e) (cell-more s g (a .r) (l .c) (l .out) (omega arith) (l .inv .2)),
+      below-more (CellRight s g (a .r)) (l .c) (l .inv .3) (here .1),
+    )
 
 same-length-2 : tie.Need-same-length-2 Inv-loop μ-loop
 same-length-2 c = search needs
@@ -96,8 +105,10 @@ returns-2 c =
     let l = c .before .loop in
     let b = c .before .before .before in
     let a = b .args in
-    let k : l .c ≡ a .g .columns = omega arith in
-    sym (take-all (l .c) (l .out) (omega arith)) ∙ l .inv .2 ∙ ap (tabulate (cellAt (stateOf (a .s)) (gridOf (a .g)) (a .r))) k
+    let k : l .c ≡ a .g .columns = omega arith in (
+      sym (take-all (l .c) (l .out) (omega arith)) ∙ l .inv .2 ∙ ap (tabulate (cellAt (stateOf (a .s)) (gridOf (a .g)) (a .r))) k,
+      λ i h. l .inv .3 i (omega arith),
+    )
 
 pub fill-row-spec : {M : Type 1} → statement M
 fill-row-spec =

@@ -65,8 +65,9 @@ returns-2 c =
     let a = r .before .before .before .before .args in
     let n = r .before .before .cell-count in
     let no = rw (n .ensures .0) at (r .refusal .ensures (stateOf (a .s)) (sym (r .before .count .ensures))) in
-    let o = file-written (stateOf (a .s)) (gridOf (a .g)) (a .out .now) (sym no ∙ e .if1 .left) in
-    rw (c .before .before .encode .ensures, n .ensures .0) o
+    let f = c .before .before .encode .ensures in
+    let o = file-written (stateOf (a .s)) (gridOf (a .g)) (a .out .now) (sym no ∙ e .if1 .left) (f .1) in
+    rw (f .0, n .ensures .0) o
 
 pub write-spec : {M : Type 1} → statement M
 write-spec =
