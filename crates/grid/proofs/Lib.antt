@@ -2,3 +2,4 @@
 pub mod Rows
 pub mod Looked
 pub mod Outcomes
+pub mod Told

@@ -3,17 +3,17 @@ use mathlib.Core.Path.{_≡_, refl}
 use Prim.Native.Nat.{ℕ, zero, suc, _+_, _-_, _*_, _≤_, _<_}
 use native.Mathlib.Nat.{mul-le-mul, mul-le-mul-left, mul-le-mul-right}
 use native.Mathlib.Omega.{arith}
-use mathlib.Core.Bool.{true, _&&_, and-eq-true-iff}
+use mathlib.Core.Bool.{Bool, true, false, cond, _&&_, and-eq-true-iff}
 use mathlib.Core.List.{List, [], _∷_, flatMap}
 use lib.Dec.{ltb, leb, eqb}
 use lib.IntN.{ℤ}
 use lib.ListN.{length, length-append}
-use borrow.Author.Tests.{ltb-false, leb-true, eqb-false, lt-ltb, ne-eqb}
+use borrow.Author.Tests.{ltb-false, leb-true, eqb-false, lt-ltb, le-ltb, ne-eqb}
 use Rattle.model.specs.Point.{State}
 use Rattle.model.specs.Answer.{answer}
 use Rattle.model.specs.Calls.{Lookup, refusal, nonEmpty, enough}
 use Rattle.model.specs.Grid.{Grid, axis, proper, cellCount, gridCheck, cellLocation, row, rowsOf, cells}
-use Rattle.model.specs.GridFile.{cellsBytes, gridTrailer, fileOfCells, gridFile, gridFileLength}
+use Rattle.model.specs.GridFile.{cellsBytes, gridTrailer, fileOfCells, gridFile, gridFileLength, gridFileRefusal}
 use Rattle.laws.proofs.ListLaws.{length-tabulate}
 use Rattle.laws.proofs.Tests.{cond-zero, cond-sound}
 
@@ -97,3 +97,12 @@ pub grid-fits : (g : Grid) (s : State) (lent needed : ℕ) → gridCheck g s (en
 grid-fits g s lent needed h =
     let a = grid-accepted g s (enough lent needed) h in
     (a .0, a .1, ltb-false lent needed (cond-zero (ltb lent needed) 7 0 (a .2) .0))
+
+-- 8,212 bytes are enough for any grid
+pub room-enough : (g : Grid) (s : State) (n : ℕ) → 8212 ≤ n → gridFileRefusal g s n ≡ gridCheck g s 0
+unfolding gridFileRefusal
+room-enough g s n h = by-rules (proper g) refl
+  where
+    by-rules : (t : Bool) → proper g ≡ t → cond t (nonEmpty s (enough n (gridFileLength g))) 7 ≡ cond t (nonEmpty s 0) 7
+    by-rules true e = rw (le-ltb n (gridFileLength g) (omega (arith, few-cells g e)))
+    by-rules false e = refl

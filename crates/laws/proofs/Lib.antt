@@ -25,3 +25,4 @@ pub mod CallLaws
 pub mod HistoryInvariant
 pub mod DropLaws
 pub mod GridLaws
+pub mod ProgramLaws

@@ -2,6 +2,7 @@
 mod edits;
 
 ghost use mathlib.Core.Path.{_≡_};
+ghost use Prim.Native.Nat.{_≤_};
 ghost use lib.ListN.{length};
 ghost use Rattle.model.specs.Point.{location};
 ghost use Rattle.model.specs.SurveyFile.{writtenInto};
@@ -54,7 +55,7 @@ pub fn fresh() -> Survey
 
 // How many points are present.
 pub fn count(s: Survey) -> usize
-    ensures { λ r. ⌜ r ≡ length (stateOf s .points) ⌝ }
+    ensures { λ r. ⌜ (r ≡ length (stateOf s .points)) × (r ≤ 256) ⌝ }
 {
     columns::clamped(s.count)
 }

@@ -29,14 +29,14 @@ unfolding gridRefusal
 returns c =
     let r = c .before in
     let a = r .before .before .before .args in
-    let no = rw (r .before .before .cell-count .ensures .0) at (r .refusal .ensures (stateOf (a .s)) (sym (r .before .count .ensures))) in
+    let no = rw (r .before .before .cell-count .ensures .0) at (r .refusal .ensures (stateOf (a .s)) (sym (r .before .count .ensures .0))) in
     cells-refused (stateOf (a .s)) (gridOf (a .g)) (a .out .now) (r .refusal .result) no (c .if1 .taken)
 
 slice-relend-prefix-fill : tie.Need-slice-relend-prefix-fill
 slice-relend-prefix-fill c =
     let r = c .before in
     let a = r .before .before .before .args in
-    let no = r .refusal .ensures (stateOf (a .s)) (sym (r .before .count .ensures)) in
+    let no = r .refusal .ensures (stateOf (a .s)) (sym (r .before .count .ensures .0)) in
     grid-fits (gridOf (a .g)) (stateOf (a .s)) (length (a .out .now)) (r .before .before .cell-count .result) (sym no ∙ c .if1 .left) .2
 
 slice-aggregate-fill : tie.Need-slice-aggregate-fill
@@ -47,7 +47,7 @@ fill-requires c κs =
     let r = c .before .before in
     let a = r .before .before .before .args in
     let n = r .before .before .cell-count in
-    let no = r .refusal .ensures (stateOf (a .s)) (sym (r .before .count .ensures)) in
+    let no = r .refusal .ensures (stateOf (a .s)) (sym (r .before .count .ensures .0)) in
     let f = grid-fits (gridOf (a .g)) (stateOf (a .s)) (length (a .out .now)) (n .result) (sym no ∙ c .before .if1 .left) in
     (f .0, f .1, sym (slice-aggregate-fill c) ∙ n .ensures .0)
 
@@ -61,7 +61,7 @@ returns-2 c =
     let r = e .before in
     let a = r .before .before .before .args in
     let n = r .before .before .cell-count in
-    let no = rw (n .ensures .0) at (r .refusal .ensures (stateOf (a .s)) (sym (r .before .count .ensures))) in
+    let no = rw (n .ensures .0) at (r .refusal .ensures (stateOf (a .s)) (sym (r .before .count .ensures .0))) in
     let f = c .before .fill .ensures in
     let o = cells-filled (stateOf (a .s)) (gridOf (a .g)) (a .out .now) (sym no ∙ e .if1 .left) (f .1) in
     rw (f .0, n .ensures .0) o

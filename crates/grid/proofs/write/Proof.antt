@@ -32,14 +32,14 @@ unfolding gridFileRefusal
 returns c =
     let r = c .before in
     let a = r .before .before .before .before .args in
-    let no = rw (r .before .before .cell-count .ensures .0) at (r .refusal .ensures (stateOf (a .s)) (sym (r .before .count .ensures))) in
+    let no = rw (r .before .before .cell-count .ensures .0) at (r .refusal .ensures (stateOf (a .s)) (sym (r .before .count .ensures .0))) in
     file-refused (stateOf (a .s)) (gridOf (a .g)) (a .out .now) (r .refusal .result) no (c .if1 .taken)
 
 slice-relend-prefix-encode : tie.Need-slice-relend-prefix-encode
 slice-relend-prefix-encode c =
     let r = c .before in
     let a = r .before .before .before .before .args in
-    let no = r .refusal .ensures (stateOf (a .s)) (sym (r .before .count .ensures)) in
+    let no = r .refusal .ensures (stateOf (a .s)) (sym (r .before .count .ensures .0)) in
     grid-fits (gridOf (a .g)) (stateOf (a .s)) (length (a .out .now)) (2 * r .before .before .cell-count .result + 20) (sym no ∙ c .if1 .left) .2
 
 slice-aggregate-encode : tie.Need-slice-aggregate-encode
@@ -50,7 +50,7 @@ encode-requires c κs =
     let r = c .before .before in
     let a = r .before .before .before .before .args in
     let n = r .before .before .cell-count in
-    let no = r .refusal .ensures (stateOf (a .s)) (sym (r .before .count .ensures)) in
+    let no = r .refusal .ensures (stateOf (a .s)) (sym (r .before .count .ensures .0)) in
     let f = grid-fits (gridOf (a .g)) (stateOf (a .s)) (length (a .out .now)) (2 * n .result + 20) (sym no ∙ c .before .if1 .left) in
     (f .0, f .1, sym (slice-aggregate-encode c) ∙ rw (n .ensures .0))
 
@@ -64,7 +64,7 @@ returns-2 c =
     let r = e .before in
     let a = r .before .before .before .before .args in
     let n = r .before .before .cell-count in
-    let no = rw (n .ensures .0) at (r .refusal .ensures (stateOf (a .s)) (sym (r .before .count .ensures))) in
+    let no = rw (n .ensures .0) at (r .refusal .ensures (stateOf (a .s)) (sym (r .before .count .ensures .0))) in
     let f = c .before .before .encode .ensures in
     let o = file-written (stateOf (a .s)) (gridOf (a .g)) (a .out .now) (sym no ∙ e .if1 .left) (f .1) in
     rw (f .0, n .ensures .0) o

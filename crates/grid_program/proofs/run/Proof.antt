@@ -1,0 +1,129 @@
+-- `run` meets its contract: a file that is read gives the preamble's length by its count, and the grid's refusal is then the program's.
+use mathlib.Core.Path.{refl, sym, _∙_}
+use native.Mathlib.Omega.{arith}
+use Rattle.laws.proofs.ProgramLaws.{file-decides, preamble-decides}
+use Rattle.survey.specs.Held.{stateOf}
+use Rattle.grid_rules.specs.Held.{gridOf}
+use Rattle.grid_program.proofs.Running.{load-number, load-state, ends-refused, preamble-short, preamble-long, grid-refused, grid-written}
+use borrow.Author.Needs.{needs}
+use Rattle.grid_program.proofs.run.Statement.{statement}
+use Rattle.grid_program.proofs.run.Tie as tie
+
+fresh-requires : tie.Need-fresh-requires
+fresh-requires c κs = search needs
+
+load-requires : tie.Need-load-requires
+load-requires c κs = search needs
+
+refused-requires : tie.Need-refused-requires
+refused-requires c κs = search needs
+
+returns : tie.Need-returns
+returns c =
+    let l = c .before .before .before in
+    let f = l .before .before .before .args .input .now in
+    let no = load-number f (l .before .fresh .result) (l .load .result) (l .load .ensures) in
+    let e = file-decides f (λ k. c .before .if1 .taken (no ∙ k)) in
+    ends-refused f _ _ (c .refused .ensures) (e ∙ sym no) (c .before .if1 .taken)
+
+count-requires : tie.Need-count-requires
+count-requires c κs = search needs
+
+mul-if2 : tie.Need-mul-if2
+mul-if2 c = omega arith
+
+add-if2 : tie.Need-add-if2
+add-if2 c = omega arith
+
+add-if2-2 : tie.Need-add-if2-2
+add-if2-2 c = omega arith
+
+refused-requires-2 : tie.Need-refused-requires-2
+refused-requires-2 c κs = search needs
+
+returns-2 : tie.Need-returns-2
+returns-2 c =
+    let n = c .before .before in
+    let l = n .before .before .before .before in
+    let f = l .before .before .before .args .input .now in
+    let no = load-number f (l .before .fresh .result) (l .load .result) (l .load .ensures) in
+    let e = sym no ∙ n .before .before .if1 .left in
+    let state = load-state f (l .before .fresh .result) (l .load .result) (l .load .ensures) e in
+    let short = preamble-short f e (stateOf (l .load .result .survey)) state (n .count .result) (n .count .ensures .0) (c .before .if2 .taken) in
+    ends-refused f _ 7 (c .refused2 .ensures) (preamble-decides f e short) (omega arith)
+
+blank-requires : tie.Need-blank-requires
+blank-requires c κs = search needs
+
+grid-in-requires : tie.Need-grid-in-requires
+grid-in-requires c κs = search needs
+
+slice-aggregate-write : tie.Need-slice-aggregate-write
+slice-aggregate-write c = search needs
+
+write-requires : tie.Need-write-requires
+write-requires c κs = search needs
+
+enum-known-written : tie.Need-enum-known-written
+enum-known-written c = search needs
+
+enum-known-written-2 : tie.Need-enum-known-written-2
+enum-known-written-2 c = search needs
+
+refused-requires-3 : tie.Need-refused-requires-3
+refused-requires-3 c κs = search needs
+
+returns-3 : tie.Need-returns-3
+returns-3 c =
+    let w = c .before .before .before .before in
+    let n = w .before .before .before .before .before in
+    let l = n .before .before .before .before in
+    let f = l .before .before .before .args .input .now in
+    let no = load-number f (l .before .fresh .result) (l .load .result) (l .load .ensures) in
+    let e = sym no ∙ n .before .before .if1 .left in
+    let s = stateOf (l .load .result .survey) in
+    let state = load-state f (l .before .fresh .result) (l .load .result) (l .load .ensures) e in
+    let long = preamble-long f e s state (n .count .result) (n .count .ensures .0) (omega arith) in
+    let d = w .before .before .before .blank in
+    let g = w .before .before .grid-in in
+    grid-written f e s state long (gridOf (g .result)) (g .ensures) (d .result) (omega arith) (w .write .result) (w .write .ensures .0) _ _ (c .before .written .given .1) (w .write .ensures .1 .1)
+    (w .write .ensures .1 .0) refl
+
+returns-4 : tie.Need-returns-4
+returns-4 c =
+    let w = c .before .before .before .before .before in
+    let n = w .before .before .before .before .before in
+    let l = n .before .before .before .before in
+    let f = l .before .before .before .args .input .now in
+    let no = load-number f (l .before .fresh .result) (l .load .result) (l .load .ensures) in
+    let e = sym no ∙ n .before .before .if1 .left in
+    let s = stateOf (l .load .result .survey) in
+    let state = load-state f (l .before .fresh .result) (l .load .result) (l .load .ensures) e in
+    let long = preamble-long f e s state (n .count .result) (n .count .ensures .0) (omega arith) in
+    let d = w .before .before .before .blank in
+    let g = w .before .before .grid-in in
+    grid-refused f e s state long (gridOf (g .result)) (g .ensures) (d .result) (omega arith) (w .write .result) (w .write .ensures .0) _ _ (c .before .before .written2 .given .1) (c .refused3 .ensures)
+
+pub run-spec : {M : Type 1} → statement M
+run-spec =
+    tie.close
+    (tie.spec
+    fresh-requires
+    load-requires
+    refused-requires
+    returns
+    count-requires
+    mul-if2
+    add-if2
+    add-if2-2
+    refused-requires-2
+    returns-2
+    blank-requires
+    grid-in-requires
+    slice-aggregate-write
+    write-requires
+    enum-known-written
+    enum-known-written-2
+    refused-requires-3
+    returns-3
+    returns-4)
