@@ -1,4 +1,6 @@
 // Text to standard output: words, numbers in decimal, bytes in hexadecimal. Where a write fails there is nobody to tell, and the rest is written all the same.
+pub mod chunk;
+
 use libc::STDOUT_FILENO;
 
 pub fn word(w: &[u8]) {
@@ -18,11 +20,7 @@ pub fn number(n: u64) {
 }
 
 pub fn signed(a: i16) {
-    let n = numbers::complement_word(a);
-    if 32768 <= n {
-        word(&[b'-']);
-        number(65536 - n as u64);
-        return;
-    }
-    number(n as u64);
+    let mut digits = [0u8; 2048];
+    let n = chunk::signed(&mut digits, 0, a);
+    chunk::write(&digits, n);
 }

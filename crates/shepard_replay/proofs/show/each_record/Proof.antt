@@ -1,0 +1,51 @@
+-- `shepard_replay::show::each_record` is safe and ends: m turns. Nothing has to hold from turn to turn.
+use Prim.Native.Nat.{_-_}
+use borrow.Author.Needs.{needs}
+use native.Mathlib.Omega.{arith}
+use Rattle.shepard_replay.proofs.show.each_record.Statement.{statement}
+use Rattle.shepard_replay.proofs.show.each_record.Tie as tie
+
+abbrev Inv-loop : tie.InvT-loop
+Inv-loop list filled m line₀ n₀ i₀ line n i = Unit {0}
+
+abbrev μ-loop : tie.MeasureT-loop
+μ-loop list filled m line₀ n₀ i₀ line n i = m - i
+
+loop-holds : tie.Need-loop-holds Inv-loop μ-loop
+loop-holds c = tt
+
+record-at-requires : tie.Need-record-at-requires Inv-loop μ-loop
+record-at-requires c κs = tt
+
+record-requires : tie.Need-record-requires Inv-loop μ-loop
+record-requires c κs = tt
+
+add-i : tie.Need-add-i Inv-loop μ-loop
+add-i c = omega arith
+
+loop-less : tie.Need-loop-less Inv-loop μ-loop
+loop-less c = omega arith
+
+loop-again : tie.Need-loop-again Inv-loop μ-loop
+loop-again c = tt
+
+write-requires : tie.Need-write-requires Inv-loop μ-loop
+write-requires c κs = tt
+
+returns : tie.Need-returns Inv-loop μ-loop
+returns c = tt
+
+pub each-record-spec : {M : Type 1} → statement M
+each-record-spec =
+    tie.close
+    (tie.spec
+    Inv-loop
+    μ-loop
+    loop-holds
+    record-at-requires
+    record-requires
+    add-i
+    loop-less
+    loop-again
+    write-requires
+    returns)

@@ -1,0 +1,57 @@
+// The line that answers a call.
+use grid::Filled;
+use survey::Answer;
+use survey_file::Written;
+
+pub fn refused(no: u8) {
+    text::word(b"refused ");
+    text::number(no as u64);
+    text::line_feed();
+}
+
+// For a call that edits; 0 is no refusal.
+pub fn edited(refusal: u8) {
+    if refusal == 0 {
+        text::word(b"ok\n");
+        return;
+    }
+    refused(refusal);
+}
+
+pub fn found(answer: i16, count: usize, radius: u32) {
+    text::word(b"found ");
+    text::signed(answer);
+    text::space();
+    text::number(count as u64);
+    text::space();
+    text::number(radius as u64);
+    text::line_feed();
+}
+
+pub fn answered(a: Answer) {
+    match a {
+        Answer::Found(answer, count, radius) => found(answer, count, radius),
+        Answer::Refused(no) => refused(no),
+    }
+}
+
+fn counted(name: &[u8], n: usize) {
+    text::word(name);
+    text::space();
+    text::number(n as u64);
+    text::line_feed();
+}
+
+pub fn written(w: Written) {
+    match w {
+        Written::Length(n) => counted(b"wrote", n),
+        Written::Refused(no) => refused(no),
+    }
+}
+
+pub fn filled(f: Filled) {
+    match f {
+        Filled::Cells(n) => counted(b"cells", n),
+        Filled::Refused(no) => refused(no),
+    }
+}

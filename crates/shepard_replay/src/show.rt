@@ -1,0 +1,98 @@
+// The line that shows all that was lent to a call, as it is after the call. Before it every lent byte is A5 hexadecimal, every lent cell A5A5, which is -23131, and every field of a lent record A5, so that what a call left alone is seen.
+use records::Record;
+use text::chunk;
+
+fn each_byte(lent: &[u8]) {
+    let mut line = [0u8; 2048];
+    let mut n = 0usize;
+    let mut i = 0usize;
+    while i < lent.len() {
+        n = chunk::hexadecimal(&mut line, n, lent[i]);
+        i += 1;
+    }
+    chunk::write(&line, n);
+}
+
+pub fn bytes(lent: &[u8]) {
+    text::word(b"bytes");
+    if 0 < lent.len() {
+        text::space();
+        each_byte(lent);
+    }
+    text::line_feed();
+}
+
+fn each_cell(lent: &[i16]) {
+    let mut line = [0u8; 2048];
+    let mut n = 0usize;
+    let mut i = 0usize;
+    while i < lent.len() {
+        n = chunk::byte(&mut line, n, b' ');
+        n = chunk::signed(&mut line, n, lent[i]);
+        i += 1;
+    }
+    chunk::write(&line, n);
+}
+
+pub fn values(lent: &[i16]) {
+    text::word(b"values");
+    each_cell(lent);
+    text::line_feed();
+}
+
+// A lent record that no call has filled.
+fn untouched() -> Record {
+    Record {
+        x: 165,
+        y: 165,
+        z: -91,
+        distance: 165,
+        kind: 165,
+    }
+}
+
+// The list's record at i where it is filled.
+fn record_at(list: [Record; 10], filled: usize, i: usize) -> Record {
+    if i < filled && i < 10 {
+        return list[i];
+    }
+    untouched()
+}
+
+// A value as a wider number.
+fn wide(z: i8) -> i16 {
+    z as i16
+}
+
+// Adds ` x,y,z,distance,kind` to the characters that wait, and answers how many wait then.
+fn record(r: Record, line: &mut [u8; 2048], waiting: usize) -> usize {
+    let mut n = chunk::byte(line, waiting, b' ');
+    n = chunk::number(line, n, r.x as u64);
+    n = chunk::byte(line, n, b',');
+    n = chunk::number(line, n, r.y as u64);
+    n = chunk::byte(line, n, b',');
+    n = chunk::signed(line, n, wide(r.z));
+    n = chunk::byte(line, n, b',');
+    n = chunk::number(line, n, r.distance as u64);
+    n = chunk::byte(line, n, b',');
+    chunk::number(line, n, r.kind as u64)
+}
+
+fn each_record(list: [Record; 10], filled: usize, m: usize) {
+    let mut line = [0u8; 2048];
+    let mut n = 0usize;
+    let mut i = 0usize;
+    while i < m {
+        let r = record_at(list, filled, i);
+        n = record(r, &mut line, n);
+        i += 1;
+    }
+    chunk::write(&line, n);
+}
+
+// Of m records the first `filled` are the list's; the others are untouched.
+pub fn records(list: [Record; 10], filled: usize, m: usize) {
+    text::word(b"records");
+    each_record(list, filled, m);
+    text::line_feed();
+}

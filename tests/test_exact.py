@@ -1,0 +1,167 @@
+"""Holds exact.py against document 01's own numbers and a second, slower reading of the mean."""
+
+import unittest
+from fractions import Fraction
+from random import Random
+from unittest import mock
+
+import exact
+import fakes
+import journals
+import surveys
+
+
+def survey_of(points):
+    survey = exact.Survey()
+    for point in points:
+        survey.add(*point)
+    return survey
+
+
+def example(number):
+    points, location = journals.EXAMPLES[number]
+    return survey_of(points).lookup(*location)
+
+
+def answers(lookup):
+    return list(exact.permitted_answers(lookup))
+
+
+def kinds(lookup):
+    return {neighbour.kind for neighbour in lookup.neighbours}
+
+
+def plain_mean(neighbours, radius, x, y):
+    """The exact mean in fractions throughout, with no common denominator drawn out."""
+    s = [Fraction(*exact.factor(neighbour, radius)) for neighbour in neighbours]
+    weights = []
+    for i, one in enumerate(neighbours):
+        term = Fraction(0)
+        for j, other in enumerate(neighbours):
+            if j != i:
+                inner = (one.x - x) * (other.x - x) + (one.y - y) * (other.y - y)
+                term += s[j] * abs(1 - Fraction(65_536 * inner, one.distance * other.distance))
+        weights.append(s[i] ** 2 * (1 + term / sum(s)))
+    return sum(weight * each.z for weight, each in zip(weights, neighbours)) / sum(weights)
+
+
+class RefusalCase(unittest.TestCase):
+    def assert_refused(self, number, call, *arguments):
+        with self.assertRaises(exact.Refused) as caught:
+            call(*arguments)
+        self.assertEqual(caught.exception.number, number)
+
+
+class Examples(RefusalCase):
+    def test_distances(self):
+        self.assertEqual([exact.distance(squared) for squared in (0, 1, 2)], [0, 256, 362])
+        self.assertEqual(exact.distance(2 * 4095**2), 1_482_548)
+
+    def test_one_point(self):
+        points, location = journals.EXAMPLES[0]
+        survey = survey_of(points)
+        rng = Random(7)
+        elsewhere = [(rng.randrange(4096), rng.randrange(4096)) for _ in range(200)]
+        for x, y in [location, points[0][:2], (0, 0), (4095, 0), (4095, 4095), *elsewhere]:
+            self.assertEqual(answers(survey.lookup(x, y)), [-1792])
+
+    def test_two_points(self):
+        self.assertEqual(answers(example(1)), [4608])
+        self.assertEqual(example(2).mean, Fraction(70, 3))
+        self.assertEqual(answers(example(2)), [5973])
+        self.assertEqual(answers(example(3)), [1280])
+
+    def test_two_points_without_directional_terms(self):
+        with mock.patch.object(exact, "others", lambda count, own: []):
+            self.assertEqual(answers(example(1)), [4608])
+            self.assertEqual(answers(example(2)), [4608])
+
+    def test_five_points(self):
+        lookup = example(4)
+        self.assertEqual((len(lookup.neighbours), lookup.radius), (5, 1708))
+        self.assertEqual(kinds(lookup), {exact.TAPERED})
+        self.assertEqual(answers(lookup), [4608])
+
+    def test_twelve_points(self):
+        points, _ = journals.EXAMPLES[5]
+        self.assertEqual(len(points), 12)
+        self.assertEqual(exact.initial_radius(survey_of(points).points()), 1103)
+        lookup = example(5)
+        self.assertEqual((len(lookup.neighbours), lookup.radius), (4, 1280))
+        self.assertEqual(kinds(lookup), {exact.EDGE})
+        self.assertEqual(answers(lookup), [640])
+
+    def test_kinds(self):
+        found = [exact.influence_kind(away, 1708, 5) for away in (569, 570, 1707, 1708)]
+        self.assertEqual(found, [exact.INVERSE, exact.TAPERED, exact.TAPERED, exact.EDGE])
+
+    def test_limits(self):
+        survey = survey_of([(4095, 0, 127)])
+        self.assert_refused(1, survey.add, 4096, 0, 127)
+        self.assert_refused(2, survey.add, 1, 1, 128)
+        for y in range(255):
+            survey.add(9, y, 0)
+        self.assert_refused(5, survey.add, 9, 255, 0)
+
+    def test_no_records(self):
+        survey = survey_of([(1, 1, 1)])
+        survey.load(exact.survey_file([]))
+        self.assert_refused(6, survey.lookup, 0, 0)
+
+    def test_whole_case(self):
+        output = "F900 F900 0000 0000 0001 0001 0002 0001 00000004 524C4731"
+        cells, trailer = exact.grid_program(journals.whole_case(Random(0), 0))
+        self.assertEqual([answers(cell) for cell in cells], [[-1792], [-1792]])
+        self.assertEqual(trailer, bytes.fromhex(output)[4:])
+        self.assertEqual(fakes.grid(journals.whole_case(Random(0), 0)), bytes.fromhex(output))
+
+
+class Mean(unittest.TestCase):
+    def test_against_plain_fractions(self):
+        rng = Random(11)
+        compared = 0
+        for kind in surveys.KINDS:
+            points, aimed = surveys.make(rng, kind)
+            survey = survey_of(points)
+            for x, y in aimed[:4] + [surveys.location_near(rng, points) for _ in range(4)]:
+                lookup = survey.lookup(x, y)
+                if kinds(lookup) & {exact.INVERSE, exact.TAPERED}:
+                    plain = plain_mean(lookup.neighbours, lookup.radius, x, y)
+                    self.assertEqual(lookup.mean, plain)
+                    compared += 1
+        self.assertGreater(compared, 60)
+
+    def test_either_side_of_a_midpoint(self):
+        """Within 1/65,536 of a midpoint both neighbouring 256ths are permitted, farther off one."""
+        ends = tuple(exact.Neighbour(0, 0, z, 256, exact.INVERSE) for z in (0, 1))
+        for off, permitted in ((-2, [3]), (-1, [3, 4]), (0, [3, 4]), (1, [3, 4]), (2, [4])):
+            lookup = exact.Lookup(Fraction(256 * 3 + 128 + off, 65_536), 0, ends)
+            self.assertEqual(answers(lookup), permitted)
+
+
+class Files(RefusalCase):
+    def test_written_and_read(self):
+        rng = Random(5)
+        for kind in surveys.KINDS:
+            points, _ = surveys.make(rng, kind)
+            data = exact.survey_file(survey_of(points).points())
+            self.assertEqual(exact.read_survey_file(b"preamble" + data), sorted(points))
+
+    def test_order_of_refusals(self):
+        survey = survey_of([(1, 1, 1)])
+        self.assert_refused(1, survey.add, 4096, 0, 128)
+        self.assert_refused(2, survey.add, 1, 1, 128)
+        self.assert_refused(3, survey.add, 1, 1, 0)
+        self.assert_refused(2, survey.change, 2, 2, -129)
+        self.assert_refused(4, survey.change, 2, 2, 0)
+        self.assert_refused(4, survey.drop, 2, 2)
+        survey.drop(1, 1)
+        self.assert_refused(1, survey.lookup_with_neighbours, 0, 4096, 0)
+        self.assert_refused(6, survey.lookup_with_neighbours, 0, 0, 0)
+        self.assert_refused(7, survey.grid, exact.Grid(0, 0, 0, 1, 1, 1), 0)
+        self.assert_refused(6, survey.grid, exact.Grid(0, 0, 1, 1, 1, 1), 0)
+        self.assert_refused(8, survey.write, 11)
+
+
+if __name__ == "__main__":
+    unittest.main()
