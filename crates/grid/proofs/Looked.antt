@@ -1,11 +1,11 @@
 -- A lookup where a cell is finds the cell's value, and what holds of its rounding holds of the cell's.
-use mathlib.Core.Path.{_≡_}
+use mathlib.Core.Path.{_≡_, _∙_}
 use mathlib.Core.Bool.{true}
 use Prim.Native.Nat.{ℕ, _<_}
 use native.Mathlib.Omega.{arith}
 use lib.IntN.{ℤ}
 use lib.ListN.{length}
-use Rattle.model.specs.Point.{Location, State, location}
+use Rattle.model.specs.Point.{Location, State}
 use Rattle.model.specs.Answer.{answer}
 use Rattle.model.specs.Grid.{Grid, proper, cellLocation}
 use Rattle.laws.proofs.GridLaws.{cell-accepted}
@@ -16,13 +16,14 @@ use Rattle.survey.proofs.Looking.{looked-up}
 use Rattle.grid.proofs.Rows.{CellRight}
 
 module _ (s : State) (g : Grid) (c r : ℕ) (rules : proper g ≡ true) (some : 0 < length (s .points)) (hc : c < g .columns) (hr : r < g .rows) where
-  pub cell-found : (x y : ℕ) (q : Answer) → x ≡ cellLocation g c r .x → y ≡ cellLocation g c r .y → (q ≡ lookedUp s x y) × Rounded s (location x y) q
-      → (q ≡ found s (cellLocation g c r)) × CellRight s g r c
+  abbrev p : Location
+  p = cellLocation g c r
+
+  pub cell-found : (q : Answer) → (q ≡ lookedUp s (p .x) (p .y)) × Rounded s p q → (q ≡ found s p) × CellRight s g r c
   unfolding Rounded
-  cell-found x y q ex ey h =
-      let e = looked-up s (cellLocation g c r .x) (cellLocation g c r .y) (cell-accepted s g c r rules some hc hr) in
-      let here = rw (ex, ey, e) at (h .0) in
-      (here, rw (here, ex, ey) at (h .1))
+  cell-found q h =
+      let here = h .0 ∙ looked-up s (p .x) (p .y) (cell-accepted s g c r rules some hc hr) in
+      (here, rw here at (h .1))
 
 module _ (s : State) (p : Location) (q : Answer) (here : q ≡ found s p) where
   pub finds : (a : ℤ) (n k : ℕ) → q ≡ Found a n k → a ≡ answer s p

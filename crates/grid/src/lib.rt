@@ -1,12 +1,13 @@
 // Grids over a survey: the cells, and the grid file.
 ghost use mathlib.Core.Path.{_≡_};
 ghost use mathlib.Core.Bool.{true};
-ghost use Prim.Native.Nat.{_+_, _*_, _<_, _≤_};
+ghost use Prim.Native.Nat.{_<_};
 ghost use lib.ListN.{length};
-ghost use Rattle.model.specs.Grid.{proper, cellCount, row, cells as cellsOf, cellsInto};
+ghost use Rattle.model.specs.Grid.{proper, cellCount, cellLocation, row, cells as cellsOf, cellsInto};
 ghost use Rattle.model.specs.GridFile.{gridFile, gridFileLength, gridFileInto};
 ghost use Rattle.grid_rules.specs.Held.{gridOf};
 ghost use Rattle.survey.specs.Held.{stateOf};
+ghost use Rattle.survey.specs.Answers.{lookedUp, Rounded};
 ghost use Rattle.grid.specs.Outcome.{RowRight, CellsRight, filledAs, FilledRight, writtenAs, WrittenRight};
 pub use grid_rules::Grid;
 use survey::Answer;
@@ -19,17 +20,26 @@ pub enum Filled {
     Refused(u8),
 }
 
+// The lookup where column c and row r are.
+fn look(s: Survey, g: Grid, c: usize, r: usize) -> Answer
+    requires { ⌜ (c < 64) × (r < 64) ⌝ }
+    ensures { λ a. ⌜ a ≡ lookedUp (stateOf s) (cellLocation (gridOf g) c r .x) (cellLocation (gridOf g) c r .y) ⌝ }
+    ensures { λ a. ⌜ Rounded (stateOf s) (cellLocation (gridOf g) c r) a ⌝ }
+{
+    let x = grid_rules::coordinate(g.x0, g.step_x, c);
+    let y = grid_rules::coordinate(g.y0, g.step_y, r);
+    survey::lookup(s, x, y)
+}
+
 // The cells of row r, x ascending.
 fn fill_row(s: Survey, g: Grid, r: usize, out: &mut [i16])
     requires { ⌜ (proper (gridOf g) ≡ true) × (0 < length (stateOf s .points)) × (r < g .rows) × (length (now out) ≡ g .columns) ⌝ }
     ensures { λ _. ⌜ now (out .exit) ≡ row (stateOf s) (gridOf g) r ⌝ }
     ensures { λ _. ⌜ RowRight (stateOf s) (gridOf g) r ⌝ }
 {
-    let y = grid_rules::coordinate(g.y0, g.step_y, r);
     let mut c = 0usize;
     while c < out.len() {
-        let x = grid_rules::coordinate(g.x0, g.step_x, c);
-        let found = survey::lookup(s, x, y);
+        let found = look(s, g, c, r);
         let Answer::Found(answer, _, _) = found else {
             return;
         };

@@ -3,7 +3,8 @@ use mathlib.Core.Path.{_≡_, sym, ap, subst, _∙_}
 use Prim.Native.Nat.{ℕ, _+_, _*_, _≤_, _<_}
 use native.Mathlib.Omega.{arith}
 use mathlib.Core.List.{List}
-use lib.ListN.{length, take}
+use lib.ListN.{length, take, getD}
+use lib.Seq.{getD-take}
 use Rattle.model.specs.Point.{State}
 use Rattle.model.specs.SurveyFile.{fileRefusal, filePoints, recordStart}
 use Rattle.model.specs.Calls.{Load, refusal, accepted}
@@ -23,6 +24,25 @@ use Rattle.grid.specs.Outcome.{CellsRight, writtenAs, WrittenRight}
 use Rattle.grid.proofs.Told.{told-refused, told-accepted, told-file, told-right}
 use Rattle.grid_program.specs.declared.Output.{Output}
 use Rattle.grid_program.specs.Output.{Puts, RunsAs}
+
+-- the six numbers stand in the first 12 bytes
+pub six-first : (f : List ℕ) → gridIn (take 12 f) ≡ gridIn f
+six-first f =
+    let a : (i : ℕ) → i < 12 → getD (take 12 f) i 0 ≡ getD f i 0 = λ i h. getD-take 12 f i 0 h in
+    rw (
+      a 0 (omega arith),
+      a 1 (omega arith),
+      a 2 (omega arith),
+      a 3 (omega arith),
+      a 4 (omega arith),
+      a 5 (omega arith),
+      a 6 (omega arith),
+      a 7 (omega arith),
+      a 8 (omega arith),
+      a 9 (omega arith),
+      a 10 (omega arith),
+      a 11 (omega arith),
+    )
 
 module _ (f : List ℕ) where
   pub load-number : (s : Survey) (r : Reply) → Replies (Load f) s r → r .refusal ≡ fileRefusal f

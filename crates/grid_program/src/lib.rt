@@ -22,26 +22,26 @@ fn blank() -> [u8; 8212]
     [0; 8212]
 }
 
-// The number in two bytes that stand at i.
-fn word(input: &[u8], i: usize) -> u16
-    requires { ⌜ i + 1 < length (now input) ⌝ }
-    ensures { λ r. ⌜ r ≡ wordAt (now (input .entry)) i ⌝ }
+// The number in the two bytes at i.
+fn word(six: &[u8], i: usize) -> u16
+    requires { ⌜ i + 1 < length (now six) ⌝ }
+    ensures { λ r. ⌜ r ≡ wordAt (now (six .entry)) i ⌝ }
 {
-    numbers::word_at(input, i) as u16
+    numbers::word_at(six, i) as u16
 }
 
-// The six numbers, the first 12 bytes.
-fn grid_in(input: &[u8]) -> Grid
-    requires { ⌜ 12 ≤ length (now input) ⌝ }
-    ensures { λ r. ⌜ gridOf r ≡ gridIn (now (input .entry)) ⌝ }
+// A grid's six numbers, two bytes each.
+fn grid_of(six: &[u8]) -> Grid
+    requires { ⌜ length (now six) ≡ 12 ⌝ }
+    ensures { λ r. ⌜ gridOf r ≡ gridIn (now (six .entry)) ⌝ }
 {
     Grid {
-        x0: word(input, 0),
-        y0: word(input, 2),
-        step_x: word(input, 4),
-        step_y: word(input, 6),
-        columns: word(input, 8),
-        rows: word(input, 10),
+        x0: word(six, 0),
+        y0: word(six, 2),
+        step_x: word(six, 4),
+        step_y: word(six, 6),
+        columns: word(six, 8),
+        rows: word(six, 10),
     }
 }
 
@@ -95,8 +95,9 @@ pub fn run(input: &[u8]) -> Output
     if input.len() < 12 + 5 * survey::count(s) + 12 {
         return refused(7);
     }
+    let g = grid_of(&input[0..12]);
     let mut bytes = blank();
-    let written = grid::write(s, grid_in(input), &mut bytes);
+    let written = grid::write(s, g, &mut bytes);
     match written {
         Written::Length(length) => Output { bytes, length },
         Written::Refused(no) => refused(no),

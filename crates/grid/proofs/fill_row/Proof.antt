@@ -21,28 +21,22 @@ use Rattle.grid.proofs.fill_row.Statement.{statement}
 use Rattle.grid.proofs.fill_row.Tie as tie
 
 abbrev Inv-loop : tie.InvT-loop
-Inv-loop s g r out₀ y c₀ out c =
+Inv-loop s g r out₀ c₀ out c =
     (c ≤ length out) × (length out ≡ g .columns) × (take c out ≡ tabulate (cellAt (stateOf s) (gridOf g) r) c)
     × ((i : ℕ) → i < c → CellRight (stateOf s) (gridOf g) r i)
 
 abbrev μ-loop : tie.MeasureT-loop
-μ-loop s g r out₀ y c₀ out c = length out - c
-
-coordinate-requires : tie.Need-coordinate-requires Inv-loop μ-loop
-coordinate-requires c κs = let a = proper-axes (gridOf (c .args .g)) (c .pre .0) in omega (arith, a .1 .few, c .pre .2)
+μ-loop s g r out₀ c₀ out c = length out - c
 
 loop-holds : tie.Need-loop-holds Inv-loop μ-loop
 unfolding tabulate
-loop-holds c = (omega arith, c .before .pre .3, refl, λ i l. absurd (omega arith))
+loop-holds c = (omega arith, c .pre .3, refl, λ i l. absurd (omega arith))
 
-coordinate-requires-2 : tie.Need-coordinate-requires-2 Inv-loop μ-loop
-coordinate-requires-2 c κs =
-    let b = c .before .before .before in
+look-requires : tie.Need-look-requires Inv-loop μ-loop
+look-requires c κs =
+    let b = c .before .before in
     let a = proper-axes (gridOf (b .args .g)) (b .pre .0) in
-    omega (arith, a .0 .few)
-
-lookup-requires : tie.Need-lookup-requires Inv-loop μ-loop
-lookup-requires c κs = tt
+    (omega (arith, a .0 .few), omega (arith, a .1 .few, b .pre .2))
 
 enum-known-found : tie.Need-enum-known-found Inv-loop μ-loop
 enum-known-found c = search needs
@@ -56,14 +50,13 @@ same-length c = search needs
 returns : tie.Need-returns Inv-loop μ-loop
 returns c =
     let q = c .before .before in
-    let l = q .before .before .before .loop in
-    let y = q .before .before .before .before .coordinate in
-    let b = q .before .before .before .before .before in
+    let l = q .before .before .loop in
+    let b = q .before .before .before in
     let a = b .args in
     let s = stateOf (a .s) in
     let g = gridOf (a .g) in
-    let here = cell-found s g (l .c) (a .r) (b .pre .0) (b .pre .1) (omega arith) (b .pre .2) _ _ _ (q .before .coordinate2 .ensures) (y .ensures) (q .lookup .ensures) in
-    absurd (not-refused s (cellLocation g (l .c) (a .r)) (q .lookup .result) (here .0) _ (c .enum-told .given .1))
+    let here = cell-found s g (l .c) (a .r) (b .pre .0) (b .pre .1) (omega arith) (b .pre .2) (q .look .result) (q .look .ensures) in
+    absurd (not-refused s (cellLocation g (l .c) (a .r)) (q .look .result) (here .0) _ (c .enum-told .given .1))
 
 mul-answer : tie.Need-mul-answer Inv-loop μ-loop
 mul-answer c = search needs
@@ -80,16 +73,15 @@ loop-less c = simp length-set (omega arith)
 loop-again : tie.Need-loop-again Inv-loop μ-loop
 loop-again c =
     let q = c .before .before .before in
-    let l = q .before .before .before .loop in
-    let y = q .before .before .before .before .coordinate in
-    let b = q .before .before .before .before .before in
+    let l = q .before .before .loop in
+    let b = q .before .before .before in
     let a = b .args in
     let s = stateOf (a .s) in
     let g = gridOf (a .g) in
-    let here = cell-found s g (l .c) (a .r) (b .pre .0) (b .pre .1) (omega arith) (b .pre .2) _ _ _ (q .before .coordinate2 .ensures) (y .ensures) (q .lookup .ensures) in
+    let here = cell-found s g (l .c) (a .r) (b .pre .0) (b .pre .1) (omega arith) (b .pre .2) (q .look .result) (q .look .ensures) in
     let v = c .before .found .given in
     let f : SFits w16 (v .0 .0) = search needs in
-    let e = finds s (cellLocation g (l .c) (a .r)) (q .lookup .result) (here .0) (v .0 .0) (v .0 .1 .0) (v .0 .1 .1 .0) (v .1) in (
+    let e = finds s (cellLocation g (l .c) (a .r)) (q .look .result) (here .0) (v .0 .0) (v .0 .1 .0) (v .0 .1 .1 .0) (v .1) in (
       simp length-set (omega arith),
       simp length-set (omega arith),
       rw (toZ-ofZ f, e) (cell-more s g (a .r) (l .c) (l .out) (omega arith) (l .inv .2)),
@@ -103,7 +95,7 @@ returns-2 : tie.Need-returns-2 Inv-loop μ-loop
 unfolding row
 returns-2 c =
     let l = c .before .loop in
-    let b = c .before .before .before in
+    let b = c .before .before in
     let a = b .args in
     let k : l .c ≡ a .g .columns = omega arith in (
       sym (take-all (l .c) (l .out) (omega arith)) ∙ l .inv .2 ∙ ap (tabulate (cellAt (stateOf (a .s)) (gridOf (a .g)) (a .r))) k,
@@ -116,10 +108,8 @@ fill-row-spec =
     (tie.spec
     Inv-loop
     μ-loop
-    coordinate-requires
     loop-holds
-    coordinate-requires-2
-    lookup-requires
+    look-requires
     enum-known-found
     enum-told
     same-length

@@ -4,7 +4,8 @@ use native.Mathlib.Omega.{arith}
 use Rattle.laws.proofs.ProgramLaws.{file-decides, preamble-decides}
 use Rattle.survey.specs.Held.{stateOf}
 use Rattle.grid_rules.specs.Held.{gridOf}
-use Rattle.grid_program.proofs.Running.{load-number, load-state, ends-refused, preamble-short, preamble-long, grid-refused, grid-written}
+use Rattle.grid_program.proofs.Running.{load-number, load-state, ends-refused, preamble-short, preamble-long, six-first, grid-refused, grid-written}
+use lib.Seq.{length-take-le}
 use borrow.Author.Needs.{needs}
 use Rattle.grid_program.proofs.run.Statement.{statement}
 use Rattle.grid_program.proofs.run.Tie as tie
@@ -52,11 +53,20 @@ returns-2 c =
     let short = preamble-short f e (stateOf (l .load .result .survey)) state (n .count .result) (n .count .ensures .0) (c .before .if2 .taken) in
     ends-refused f _ 7 (c .refused2 .ensures) (preamble-decides f e short) (omega arith)
 
-blank-requires : tie.Need-blank-requires
-blank-requires c κs = search needs
+sub-grid-of : tie.Need-sub-grid-of
+sub-grid-of c = search needs
 
-grid-in-requires : tie.Need-grid-in-requires
-grid-in-requires c κs = search needs
+part-grid-of-start : tie.Need-part-grid-of-start
+part-grid-of-start c = search needs
+
+part-grid-of-end : tie.Need-part-grid-of-end
+part-grid-of-end c = omega arith
+
+grid-of-requires : tie.Need-grid-of-requires
+grid-of-requires c κs = length-take-le 12 (c .before .before .before .before .before .before .before .before .before .args .input .now) (omega arith)
+
+blank-requires : tie.Need-blank-requires
+blank-requires c κs = tt
 
 slice-aggregate-write : tie.Need-slice-aggregate-write
 slice-aggregate-write c = search needs
@@ -76,7 +86,7 @@ refused-requires-3 c κs = search needs
 returns-3 : tie.Need-returns-3
 returns-3 c =
     let w = c .before .before .before .before in
-    let n = w .before .before .before .before .before in
+    let n = w .before .before .before .before .before .before in
     let l = n .before .before .before .before in
     let f = l .before .before .before .args .input .now in
     let no = load-number f (l .before .fresh .result) (l .load .result) (l .load .ensures) in
@@ -84,15 +94,15 @@ returns-3 c =
     let s = stateOf (l .load .result .survey) in
     let state = load-state f (l .before .fresh .result) (l .load .result) (l .load .ensures) e in
     let long = preamble-long f e s state (n .count .result) (n .count .ensures .0) (omega arith) in
-    let d = w .before .before .before .blank in
-    let g = w .before .before .grid-in in
-    grid-written f e s state long (gridOf (g .result)) (g .ensures) (d .result) (omega arith) (w .write .result) (w .write .ensures .0) _ _ (c .before .written .given .1) (w .write .ensures .1 .1)
+    let d = w .before .before .blank in
+    let g = w .before .before .before .grid-of in
+    grid-written f e s state long (gridOf (g .result)) (g .ensures ∙ six-first f) (d .result) (omega arith) (w .write .result) (w .write .ensures .0) _ _ (c .before .written .given .1) (w .write .ensures .1 .1)
     (w .write .ensures .1 .0) refl
 
 returns-4 : tie.Need-returns-4
 returns-4 c =
     let w = c .before .before .before .before .before in
-    let n = w .before .before .before .before .before in
+    let n = w .before .before .before .before .before .before in
     let l = n .before .before .before .before in
     let f = l .before .before .before .args .input .now in
     let no = load-number f (l .before .fresh .result) (l .load .result) (l .load .ensures) in
@@ -100,9 +110,9 @@ returns-4 c =
     let s = stateOf (l .load .result .survey) in
     let state = load-state f (l .before .fresh .result) (l .load .result) (l .load .ensures) e in
     let long = preamble-long f e s state (n .count .result) (n .count .ensures .0) (omega arith) in
-    let d = w .before .before .before .blank in
-    let g = w .before .before .grid-in in
-    grid-refused f e s state long (gridOf (g .result)) (g .ensures) (d .result) (omega arith) (w .write .result) (w .write .ensures .0) _ _ (c .before .before .written2 .given .1) (c .refused3 .ensures)
+    let d = w .before .before .blank in
+    let g = w .before .before .before .grid-of in
+    grid-refused f e s state long (gridOf (g .result)) (g .ensures ∙ six-first f) (d .result) (omega arith) (w .write .result) (w .write .ensures .0) _ _ (c .before .before .written2 .given .1) (c .refused3 .ensures)
 
 pub run-spec : {M : Type 1} → statement M
 run-spec =
@@ -118,8 +128,11 @@ run-spec =
     add-if2-2
     refused-requires-2
     returns-2
+    sub-grid-of
+    part-grid-of-start
+    part-grid-of-end
+    grid-of-requires
     blank-requires
-    grid-in-requires
     slice-aggregate-write
     write-requires
     enum-known-written

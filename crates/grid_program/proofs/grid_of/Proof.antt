@@ -1,7 +1,7 @@
--- `grid_in` meets its contract by what `word` ensures.
+-- `grid_of` meets its contract by what `word` ensures.
 use borrow.Author.Needs.{needs}
-use Rattle.grid_program.proofs.grid_in.Statement.{statement}
-use Rattle.grid_program.proofs.grid_in.Tie as tie
+use Rattle.grid_program.proofs.grid_of.Statement.{statement}
+use Rattle.grid_program.proofs.grid_of.Tie as tie
 
 word-requires : tie.Need-word-requires
 word-requires c κs = search needs
@@ -32,8 +32,8 @@ returns c =
       c .word6 .ensures,
     )
 
-pub grid-in-spec : {M : Type 1} → statement M
-grid-in-spec =
+pub grid-of-spec : {M : Type 1} → statement M
+grid-of-spec =
     tie.close
     (tie.spec
     word-requires
