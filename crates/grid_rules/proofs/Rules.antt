@@ -1,13 +1,16 @@
--- The first rule of an axis that is broken, and the last one, which decides where the others hold; and the first of 7, 6 and 8 that applies.
-use mathlib.Core.Path.{_≡_}
+-- The first rule of an axis that is broken, and the last one, which decides where the others hold; and 7, 6 and 8 in their order.
+use mathlib.Core.Path.{_≡_, refl}
 use Prim.Native.Nat.{ℕ, _+_, _-_, _*_, _≤_, _<_}
-use mathlib.Core.Bool.{true, false}
-use lib.Dec.{leb}
+use mathlib.Core.Bool.{Bool, true, false, cond}
+use lib.Dec.{leb, eqb}
 use lib.ListN.{length}
-use borrow.Author.Tests.{lt-ltb, le-ltb, le-leb, lt-leb, eq-eqb, ne-eqb}
+use borrow.Author.Tests.{le-leb, lt-leb}
 use Rattle.model.specs.Point.{State}
-use Rattle.model.specs.Calls.{enough}
 use Rattle.model.specs.Grid.{Grid, axis, proper, gridCheck}
+
+-- the first of three numbers that is not 0
+abbrev pub firstOf : ℕ → ℕ → ℕ → ℕ
+firstOf a b c = cond (eqb a 0) (cond (eqb b 0) c b) a
 
 module _ (start step places : ℕ) where
   pub no-step : step < 1 → false ≡ axis start step places
@@ -24,17 +27,10 @@ module _ (start step places : ℕ) where
       pub last-decides : places ≤ 64 → leb (start + (places - 1) * step) 4095 ≡ axis start step places
       last-decides h = rw (le-leb 1 step apart, le-leb 1 places some, le-leb places 64 h)
 
-module _ (g : Grid) (s : State) (present lent needed : ℕ) (e : length (s .points) ≡ present) where
-  pub improper : proper g ≡ false → 7 ≡ gridCheck g s (enough lent needed)
-  improper h = rw h
-
-  module _ (rules : proper g ≡ true) where
-    pub none-present : present ≡ 0 → 6 ≡ gridCheck g s (enough lent needed)
-    none-present h = rw (rules, e, eq-eqb present 0 h)
-
-    module _ (some : present ≡ 0 → ⊥) where
-      pub too-short : lent < needed → 8 ≡ gridCheck g s (enough lent needed)
-      too-short h = rw (rules, e, ne-eqb present 0 some, lt-ltb lent needed h)
-
-      pub all-kept : needed ≤ lent → 0 ≡ gridCheck g s (enough lent needed)
-      all-kept h = rw (rules, e, ne-eqb present 0 some, le-ltb lent needed h)
+pub in-order : (g : Grid) (s : State) (n : ℕ) → firstOf (cond (proper g) 0 7) (cond (eqb (length (s .points)) 0) 6 0) n ≡ gridCheck g s n
+in-order g s n = by-rules (proper g) (eqb (length (s .points)) 0)
+  where
+    by-rules : (t u : Bool) → firstOf (cond t 0 7) (cond u 6 0) n ≡ cond t (cond u 6 n) 7
+    by-rules true true = refl
+    by-rules true false = refl
+    by-rules false u = refl

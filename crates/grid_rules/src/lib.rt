@@ -1,6 +1,8 @@
 // A grid's six numbers, their rules, and why a grid is refused: document 01, "Grid and grid file".
 ghost use mathlib.Core.Path.{_≡_};
+ghost use mathlib.Core.Bool.{cond};
 ghost use Prim.Native.Nat.{_+_, _*_, _<_};
+ghost use lib.Dec.{eqb};
 ghost use lib.ListN.{length};
 ghost use Rattle.model.specs.Point.{State};
 ghost use Rattle.model.specs.Calls.{enough};
@@ -57,18 +59,52 @@ pub fn cell_count(g: Grid) -> usize
     g.columns as usize * g.rows as usize
 }
 
-// Refusals 7, 6, 8, or 0: of a grid over `present` points that needs so many cells or bytes, where `lent` of them are lent.
-pub fn refusal(g: Grid, present: usize, lent: usize, needed: usize) -> u8
-    ensures { λ r. ⌜ ((s : State) → length (s .points) ≡ present → r ≡ gridCheck (gridOf g) s (enough lent needed)) ⌝ }
+fn of_rules(g: Grid) -> u8
+    ensures { λ r. ⌜ r ≡ cond (proper (gridOf g)) 0 7 ⌝ }
 {
-    if !is_proper(g) {
-        return 7;
+    if is_proper(g) {
+        return 0;
     }
+    7
+}
+
+fn of_points(present: usize) -> u8
+    ensures { λ r. ⌜ r ≡ cond (eqb present 0) 6 0 ⌝ }
+{
     if present == 0 {
         return 6;
     }
+    0
+}
+
+fn of_room(lent: usize, needed: usize) -> u8
+    ensures { λ r. ⌜ r ≡ enough lent needed ⌝ }
+{
     if lent < needed {
         return 8;
     }
     0
+}
+
+// The first that is not 0.
+fn first(a: u8, b: u8, c: u8) -> u8
+    ensures { λ r. ⌜ r ≡ cond (eqb a 0) (cond (eqb b 0) c b) a ⌝ }
+{
+    if a != 0 {
+        return a;
+    }
+    if b != 0 {
+        return b;
+    }
+    c
+}
+
+// Refusals 7, 6, 8, or 0: of a grid over `present` points that needs so many cells or bytes, where `lent` of them are lent.
+pub fn refusal(g: Grid, present: usize, lent: usize, needed: usize) -> u8
+    ensures { λ r. ⌜ ((s : State) → length (s .points) ≡ present → r ≡ gridCheck (gridOf g) s (enough lent needed)) ⌝ }
+{
+    let rules = of_rules(g);
+    let points = of_points(present);
+    let room = of_room(lent, needed);
+    first(rules, points, room)
 }

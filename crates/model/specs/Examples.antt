@@ -1,5 +1,5 @@
 -- Closed cases that hold the definitions to document 01: the starred rows of its bench table, `closed-rows`; rows of our own that these cannot replace,
--- `further`, `calls` and `files`; and the whole case of the grid program.
+-- `further`, `calls`, `files` and `grids`; and the whole case of the grid program.
 use Prim.Native.Nat.{ℕ, _<_}
 use mathlib.Core.Path.{_≡_, refl}
 use mathlib.Core.Bool.{false}
@@ -17,6 +17,7 @@ use Rattle.model.specs.Mean.{mean}
 use Rattle.model.specs.Answer.{Neighbour, answer, chosenCount, neighbours}
 use Rattle.model.specs.SurveyFile.{fault}
 use Rattle.model.specs.Calls.{Add, Change, Drop, Clear, Load, Lookup, LookupNeighbours, refusal, fresh, present}
+use Rattle.model.specs.Grid.{Grid, gridRefusal, cells}
 use Rattle.model.specs.Program.{program}
 
 abbrev two : ℕ → ℕ → ℤ → ℕ → ℕ → ℤ → State
@@ -115,6 +116,19 @@ pub files : (fault (point 5 0 (pos 0) ∷ point 4 4096 (pos 0) ∷ []) ≡ 14)
     × (program (0 ∷ 0 ∷ 0 ∷ 0 ∷ 0 ∷ 0 ∷ 0 ∷ 0 ∷ 0x52 ∷ 0x4C ∷ 0x53 ∷ 0x31 ∷ []) ≡ 114 ∷ 101 ∷ 102 ∷ 117 ∷ 115 ∷ 101 ∷ 100 ∷ 32 ∷ 55 ∷ 10 ∷ [])
 unfolding fault program
 files = (refl, refl, refl, refl)
+
+-- a grid at (x, y) with a step and a count for both axes
+abbrev square : ℕ → ℕ → ℕ → ℕ → Grid
+square x y step n = record { x0 = x; y0 = y; stepX = step; stepY = step; columns = n; rows = n }
+
+-- 7 before 6 before 8; cells row by row, x ascending within a row
+pub grids : (map (λ g. gridRefusal g fresh 0) (square 0 0 0 1 ∷ square 0 0 1 65 ∷ square 0 0 1 0 ∷ square 4096 0 1 1 ∷ square 1 0 65 64 ∷ square 2 0 65535 2 ∷ []) ≡ 7 ∷ 7 ∷ 7 ∷ 7 ∷ 7 ∷ 7 ∷ [])
+    × (gridRefusal (square 0 0 65 64) fresh 0 ≡ 6)
+    × (gridRefusal (square 0 0 65 64) five 4095 ≡ 8)
+    × (gridRefusal (square 0 0 65 64) five 4096 ≡ 0)
+    × (cells (surveyOf (point 5 5 (pos 1) ∷ point 5 7 (pos 3) ∷ point 7 5 (pos 2) ∷ point 7 7 (pos 4) ∷ [])) (square 5 5 2 2) ≡ pos 256 ∷ pos 512 ∷ pos 768 ∷ pos 1024 ∷ [])
+unfolding gridRefusal cells
+grids = (refl, refl, refl, refl, refl)
 
 -- document 01's whole case of the grid program
 pub whole-case : program (0 ∷ 0 ∷ 0 ∷ 0 ∷ 0 ∷ 1 ∷ 0 ∷ 1 ∷ 0 ∷ 2 ∷ 0 ∷ 1 ∷ 0 ∷ 3 ∷ 0 ∷ 0 ∷ 0xF9 ∷ 0 ∷ 1 ∷ 0 ∷ 0 ∷ 0 ∷ 5 ∷ 0 ∷ 0xFC ∷ 0x52 ∷ 0x4C ∷ 0x53 ∷ 0x31 ∷ [])

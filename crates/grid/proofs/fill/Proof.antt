@@ -38,13 +38,13 @@ add-end : tie.Need-add-end Inv-loop μ-loop
 add-end c =
     let b = c .before .before .before .before in
     let g = gridOf (b .args .g) in
-    omega (arith, few-cells g (b .pre .0), row-within g (c .before .before .loop .r) (c .if1 .taken))
+    omega (arith, few-cells g (b .pre .0), row-within g (c .before .before .loop .r) (omega arith))
 
 mul-fill-row : tie.Need-mul-fill-row Inv-loop μ-loop
 mul-fill-row c =
     let b = c .before .before .before .before in
     let g = gridOf (b .args .g) in
-    omega (arith, few-cells g (b .pre .0), row-within g (c .before .before .loop .r) (c .if1 .taken))
+    omega (arith, few-cells g (b .pre .0), row-within g (c .before .before .loop .r) (omega arith))
 
 sub-fill-row : tie.Need-sub-fill-row Inv-loop μ-loop
 sub-fill-row c = omega arith
@@ -53,15 +53,15 @@ part-fill-row-start : tie.Need-part-fill-row-start Inv-loop μ-loop
 part-fill-row-start c = search needs
 
 part-fill-row-end : tie.Need-part-fill-row-end Inv-loop μ-loop
-part-fill-row-end c = omega (arith, row-within (gridOf (c .before .before .before .before .args .g)) (c .before .before .loop .r) (c .if1 .taken))
+part-fill-row-end c = omega (arith, row-within (gridOf (c .before .before .before .before .args .g)) (c .before .before .loop .r) (omega arith))
 
 fill-row-requires : tie.Need-fill-row-requires Inv-loop μ-loop
 fill-row-requires c κs =
     let l = c .before .before .before .loop in
     let b = c .before .before .before .before .before in
     let g = b .args .g in
-    let w = row-within (gridOf g) (l .r) (c .before .if1 .taken) in
-    (b .pre .0, b .pre .1, c .before .if1 .taken, omega (arith, mid-len (l .at) (l .at + g .columns) (l .out) (omega (arith, w))))
+    let w = row-within (gridOf g) (l .r) (omega arith) in
+    (b .pre .0, b .pre .1, omega arith, omega (arith, mid-len (l .at) (l .at + g .columns) (l .out) (omega (arith, w))))
 
 add-r : tie.Need-add-r Inv-loop μ-loop
 add-r c = omega arith
@@ -75,7 +75,7 @@ loop-again c =
     let b = c .before .before .before .before .before .before .before in
     let s = stateOf (b .args .s) in
     let g = gridOf (b .args .g) in
-    let w = row-within g (l .r) (c .before .before .before .if1 .taken) in
+    let w = row-within g (l .r) (omega arith) in
     let f = c .before .fill-row .ensures in
     rw (f .0)
     (omega arith, omega arith, row-length s g (l .r) (l .at) (l .out) (omega (arith, w)) ∙ l .inv .2, row-more s g (l .r) (l .at) (l .out) (omega (arith, w)) (l .inv .3), below-more (RowRight s g) (l .r) (l .inv .4) (f .1))

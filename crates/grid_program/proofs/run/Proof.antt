@@ -5,7 +5,7 @@ use Rattle.laws.proofs.ProgramLaws.{file-decides, preamble-decides}
 use Rattle.survey.specs.Held.{stateOf}
 use Rattle.grid_rules.specs.Held.{gridOf}
 use Rattle.grid_program.proofs.Running.{load-number, load-state, ends-refused, preamble-short, preamble-long, six-first, grid-refused, grid-written}
-use lib.Seq.{length-take-le}
+use lib.ListN.{length-take, length-drop}
 use borrow.Author.Needs.{needs}
 use Rattle.grid_program.proofs.run.Statement.{statement}
 use Rattle.grid_program.proofs.run.Tie as tie
@@ -50,7 +50,7 @@ returns-2 c =
     let no = load-number f (l .before .fresh .result) (l .load .result) (l .load .ensures) in
     let e = sym no ∙ n .before .before .if1 .left in
     let state = load-state f (l .before .fresh .result) (l .load .result) (l .load .ensures) e in
-    let short = preamble-short f e (stateOf (l .load .result .survey)) state (n .count .result) (n .count .ensures .0) (c .before .if2 .taken) in
+    let short = preamble-short f e (stateOf (l .load .result .survey)) state (n .count .result) (n .count .ensures .0) (omega arith) in
     ends-refused f _ 7 (c .refused2 .ensures) (preamble-decides f e short) (omega arith)
 
 sub-grid-of : tie.Need-sub-grid-of
@@ -63,7 +63,7 @@ part-grid-of-end : tie.Need-part-grid-of-end
 part-grid-of-end c = omega arith
 
 grid-of-requires : tie.Need-grid-of-requires
-grid-of-requires c κs = length-take-le 12 (c .before .before .before .before .before .before .before .before .before .args .input .now) (omega arith)
+grid-of-requires c κs = simp (length-take, length-drop) (omega arith)
 
 blank-requires : tie.Need-blank-requires
 blank-requires c κs = tt

@@ -6,19 +6,19 @@ use Rattle.grid_rules.proofs.is_axis.Statement.{statement}
 use Rattle.grid_rules.proofs.is_axis.Tie as tie
 
 returns : tie.Need-returns
-returns c = let a = c .before .args in no-step (a .start) (a .step) (a .places) (c .if1 .taken)
+returns c = let a = c .before .args in no-step (a .start) (a .step) (a .places) (omega arith)
 
 returns-2 : tie.Need-returns-2
-returns-2 c = let a = c .before .before .args in no-place (a .start) (a .step) (a .places) (omega arith) (c .if2 .taken)
+returns-2 c = let a = c .before .before .args in no-place (a .start) (a .step) (a .places) (omega arith) (omega arith)
 
 returns-3 : tie.Need-returns-3
-returns-3 c = let a = c .before .before .before .args in too-many (a .start) (a .step) (a .places) (omega arith) (omega arith) (c .if3 .taken)
+returns-3 c = let a = c .before .before .before .args in too-many (a .start) (a .step) (a .places) (omega arith) (omega arith) (omega arith)
 
 sub-last : tie.Need-sub-last
 sub-last c = search needs
 
 coordinate-requires : tie.Need-coordinate-requires
-coordinate-requires c κs = search needs
+coordinate-requires c κs = omega arith
 
 returns-4 : tie.Need-returns-4
 returns-4 c =

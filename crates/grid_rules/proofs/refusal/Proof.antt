@@ -1,41 +1,28 @@
--- `refusal` meets its contract: it tries the three numbers in their order.
-use mathlib.Core.Path.{sym, _∙_}
-use native.Mathlib.Omega.{arith}
-use borrow.Author.Tests.{not-true, not-false}
+-- `refusal` meets its contract: the three numbers stand in their order.
+use Rattle.model.specs.Calls.{enough}
 use Rattle.grid_rules.specs.Held.{gridOf}
-use Rattle.grid_rules.proofs.Rules.{improper, none-present, too-short, all-kept}
+use Rattle.grid_rules.proofs.Rules.{in-order}
 use Rattle.grid_rules.proofs.refusal.Statement.{statement}
 use Rattle.grid_rules.proofs.refusal.Tie as tie
 
-is-proper-requires : tie.Need-is-proper-requires
-is-proper-requires c κs = tt
+of-rules-requires : tie.Need-of-rules-requires
+of-rules-requires c κs = tt
+
+of-points-requires : tie.Need-of-points-requires
+of-points-requires c κs = tt
+
+of-room-requires : tie.Need-of-room-requires
+of-room-requires c κs = tt
+
+first-requires : tie.Need-first-requires
+first-requires c κs = tt
 
 returns : tie.Need-returns
 returns c s e =
-    let a = c .before .before .args in
-    let broken = sym (c .before .is-proper .ensures) ∙ not-true _ (c .if1 .taken) in
-    improper (gridOf (a .g)) s (a .present) (a .lent) (a .needed) e broken
-
-returns-2 : tie.Need-returns-2
-returns-2 c s e =
     let p = c .before .before in
-    let a = p .before .args in
-    let kept = sym (p .is-proper .ensures) ∙ not-false _ (c .before .if1 .left) in
-    none-present (gridOf (a .g)) s (a .present) (a .lent) (a .needed) e kept (c .if2 .taken)
-
-returns-3 : tie.Need-returns-3
-returns-3 c s e =
-    let p = c .before .before .before in
-    let a = p .before .args in
-    let kept = sym (p .is-proper .ensures) ∙ not-false _ (c .before .before .if1 .left) in
-    too-short (gridOf (a .g)) s (a .present) (a .lent) (a .needed) e kept (c .before .if2 .left) (c .if3 .taken)
-
-returns-4 : tie.Need-returns-4
-returns-4 c s e =
-    let p = c .before .before .before in
-    let a = p .before .args in
-    let kept = sym (p .is-proper .ensures) ∙ not-false _ (c .before .before .if1 .left) in
-    all-kept (gridOf (a .g)) s (a .present) (a .lent) (a .needed) e kept (c .before .if2 .left) (omega arith)
+    let a = p .before .before .args in
+    rw (c .first .ensures, p .before .of-rules .ensures, p .of-points .ensures, c .before .of-room .ensures, ← e) (in-order (gridOf (a .g)) s (enough (a .lent) (a .needed)))
 
 pub refusal-spec : {M : Type 1} → statement M
-refusal-spec = tie.close (tie.spec is-proper-requires returns returns-2 returns-3 returns-4)
+refusal-spec =
+    tie.close (tie.spec of-rules-requires of-points-requires of-room-requires first-requires returns)
