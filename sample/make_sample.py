@@ -2,11 +2,13 @@
 
     python3 make_sample.py OUTPUT
 
-200 points like those of a worn drive. Wear and rest grow together, as an owner's use puts them, so the points lie in clusters along
-the diagonal and none lies in the corners of much wear with little rest or the other way round. The shift goes from about 0 down to
-about -90 register steps, by the cube of the wear, so that it is steep late in life, and a little by wear times rest, with noise.
+200 points like those of a worn drive. Wear and rest grow together, as an owner's use puts them, so
+the points lie in clusters along the diagonal, and none lies in the corners of much wear with little
+rest or the other way round. The shift goes from about 0 down to about -90 register steps, by the
+cube of the wear, so that it is steep late in life, and a little by wear times rest, with noise.
 Whole numbers only, from a generator of its own, so that the bytes are the same on every machine.
 """
+
 import sys
 
 LIMIT = 4095
@@ -15,13 +17,18 @@ PER_CLUSTER = 10
 
 # x0, y0, step in x, step in y, columns, rows: the last column and row are at 4,095
 GRID = (0, 0, 65, 65, 64, 64)
-TEXT = (b'Made-up survey, no drive was measured: 200 points in clusters along the diagonal of wear and rest, '
-        b'shifts from about 0 to about -90, steep late in life.\n')
-MAGIC = bytes.fromhex('524C5331')
+TEXT = (
+    b"Made-up survey, no drive was measured: 200 points in clusters along the diagonal of wear and "
+    b"rest, shifts from about 0 to about -90, steep late in life.\n"
+)
+MAGIC = bytes.fromhex("524C5331")
 
 
 class Generator:
-    """A linear congruential generator modulo 2**32 (multiplier and increment of Numerical Recipes); the high bits are used."""
+    """A linear congruential generator modulo 2**32, with the constants of Numerical Recipes.
+
+    The high bits are used.
+    """
 
     def __init__(self, seed):
         self.state = seed
@@ -70,25 +77,24 @@ def check(points):
 
 
 def word(number):
-    return number.to_bytes(2, 'big')
+    return number.to_bytes(2, "big")
 
 
 def survey_file(points):
-    preamble = b''.join(word(number) for number in GRID) + TEXT
-    records = b''.join(word(x) + word(y) + z.to_bytes(1, 'big', signed=True) for x, y, z in points)
-    trailer = word(len(points)) + len(records).to_bytes(4, 'big') + word(sum(records) % 65536) + MAGIC
-    return preamble + records + trailer
+    preamble = b"".join(word(number) for number in GRID) + TEXT
+    records = b"".join(word(x) + word(y) + z.to_bytes(1, "big", signed=True) for x, y, z in points)
+    back = len(records).to_bytes(4, "big")
+    return preamble + records + word(len(points)) + back + word(sum(records) % 65536) + MAGIC
 
 
-def main():
-    if len(sys.argv) != 2:
-        sys.exit('usage: make_sample.py OUTPUT')
+def main(arguments):
+    if len(arguments) != 1:
+        sys.exit("usage: make_sample.py OUTPUT")
     points = make_points()
     check(points)
-    contents = survey_file(points)
-    assert len(contents) <= 65536
-    with open(sys.argv[1], 'wb') as output:
-        output.write(contents)
+    with open(arguments[0], "wb") as output:
+        output.write(survey_file(points))
 
 
-main()
+if __name__ == "__main__":
+    main(sys.argv[1:])

@@ -5,6 +5,7 @@ import subprocess
 import sys
 import tempfile
 from collections import Counter
+from pathlib import Path
 from random import Random
 from typing import NamedTuple
 
@@ -12,6 +13,7 @@ import exact
 import journals
 import protocol
 
+SAMPLE = Path(__file__).parent.parent / "sample" / "worn_drive.rls"
 SEED = 1968
 SECONDS = 20
 EXCERPT = 200
@@ -302,7 +304,8 @@ def main(arguments):
     parser.add_argument("replay_program")
     parser.add_argument("--seed", type=int, default=SEED)
     options = parser.parse_args(arguments)
-    tests = journals.make(Random(options.seed))
+    sample = journals.GridInput("sample survey", SAMPLE.read_bytes())
+    tests = [sample, *journals.make(Random(options.seed))]
     try:
         counts = run_tests(tests, [options.grid_program], [options.replay_program])
     except Difference as difference:

@@ -1,6 +1,6 @@
 // The grid program as one function from bytes to bytes: document 01, "Grid and grid file".
 ghost use mathlib.Core.Path.{_≡_};
-ghost use Prim.Native.Nat.{_+_, _≤_, _<_};
+ghost use Prim.Native.Nat.{_+_, _<_};
 ghost use lib.ListN.{length};
 ghost use Rattle.model.specs.Bytes.{wordAt};
 ghost use Rattle.model.specs.Program.{gridIn, refusedText};

@@ -1,5 +1,5 @@
 -- A value by the sign that its bits show, and -1 less a value.
-use mathlib.Core.Path.{_≡_, refl, ap}
+use mathlib.Core.Path.{_≡_, refl, ap, _∙_}
 use mathlib.Core.Bool.{true, false}
 use Prim.Native.Nat.{ℕ, zero, suc, _+_, _-_, _≤_, _<_, _^_}
 use native.Mathlib.Nat.{zero-add}
@@ -20,6 +20,9 @@ natural : (z : ℤ) → ltZ z (pos 0) ≡ false → z ≡ pos (mag z)
 natural (pos n) t = refl
 natural (negsuc n) t = cc
 
+minus-one-minus : (n : ℕ) → negsuc 0 -ℤ negsuc n ≡ pos n
+minus-one-minus n = rw (le-ltb (suc n) 1 (omega arith)) (ap pos (omega arith))
+
 module _ {w : Width} {z : ℤ} (f : SFits w z) where
   pub below-zero : ltZ (toZ w (ofZ w z)) (pos 0) ≡ true → z ≡ negsuc (mag z)
   below-zero t = negative z (rw (toZ-ofZ f) at t)
@@ -27,8 +30,9 @@ module _ {w : Width} {z : ℤ} (f : SFits w z) where
   pub from-zero : ltZ (toZ w (ofZ w z)) (pos 0) ≡ false → z ≡ pos (mag z)
   from-zero t = natural z (rw (toZ-ofZ f) at t)
 
-pub minus-one-minus : (n : ℕ) → negsuc 0 -ℤ negsuc n ≡ pos n
-minus-one-minus n = rw (le-ltb (suc n) 1 (omega arith)) (ap pos (omega arith))
+  -- -1 less it
+  pub below-minus : ltZ (toZ w (ofZ w z)) (pos 0) ≡ true → negsuc 0 -ℤ toZ w (ofZ w z) ≡ pos (mag z)
+  below-minus t = ap (λ (v : ℤ). negsuc 0 -ℤ v) (toZ-ofZ f ∙ below-zero t) ∙ minus-one-minus (mag z)
 
 minus-one : (n : ℕ) → negsuc 0 -ℤ pos n ≡ negsuc n
 minus-one zero = refl

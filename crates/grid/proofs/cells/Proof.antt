@@ -1,16 +1,12 @@
 -- `cells` meets its contract: refused it changes nothing, and accepted it hands on the front of what it was lent.
-use mathlib.Core.Path.{_≡_, sym, ap, _∙_}
-use mathlib.Core.List.{_++_}
-use Prim.Native.Nat.{ℕ}
-use native.Mathlib.Omega.{arith}
-use lib.ListN.{length, drop}
+use mathlib.Core.Path.{sym, _∙_}
+use lib.ListN.{length}
 use lib.Seq.{length-take-le}
 use borrow.Author.Needs.{needs}
-use Rattle.model.specs.Grid.{gridRefusal, cellCount, cells}
+use Rattle.model.specs.Grid.{gridRefusal, cells}
 use Rattle.laws.proofs.GridLaws.{grid-fits}
 use Rattle.survey.specs.Held.{stateOf}
 use Rattle.grid_rules.specs.Held.{gridOf}
-use Rattle.grid.specs.declared.Filled.the-variants.{Cells}
 use Rattle.grid.proofs.Outcomes.{cells-refused, cells-filled}
 use Rattle.grid.proofs.cells.Statement.{statement}
 use Rattle.grid.proofs.cells.Tie as tie

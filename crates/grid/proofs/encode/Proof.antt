@@ -1,12 +1,10 @@
 -- `encode` meets its contract: the front of the room holds the cells, and their file is the grid's.
-use mathlib.Core.Path.{_≡_, sym, _∙_}
-use mathlib.Core.List.{_++_}
-use Prim.Native.Nat.{_≤_}
+use mathlib.Core.Path.{sym, _∙_}
 use native.Mathlib.Omega.{arith}
-use lib.ListN.{length, take, drop, length-append}
+use lib.ListN.{drop, length-append}
 use lib.Seq.{length-take-le, take-at}
 use borrow.Author.Needs.{needs}
-use Rattle.model.specs.Grid.{cellCount, cells}
+use Rattle.model.specs.Grid.{cells}
 use Rattle.model.specs.GridFile.{gridFile}
 use Rattle.laws.proofs.GridLaws.{few-cells, length-cells}
 use Rattle.survey.specs.Held.{stateOf}

@@ -1,9 +1,9 @@
 -- `fill_row` meets its contract: every lookup is accepted, and finds the next cell's value.
 -- The loop's invariant: the cells up to c hold the values of the first c columns.
 use mathlib.Core.Path.{_≡_, refl, sym, ap, _∙_}
-use Prim.Native.Nat.{ℕ, _+_, _-_, _≤_, _<_}
+use Prim.Native.Nat.{ℕ, _-_, _≤_, _<_}
 use native.Mathlib.Omega.{arith}
-use lib.ListN.{length, take, set, length-set}
+use lib.ListN.{length, take, length-set}
 use lib.Seq.{take-all}
 use mir.Syntax.{w16}
 use mir.Val.{SFits}

@@ -1,5 +1,5 @@
 -- `write` meets its contract: refused it changes nothing, and accepted it hands on the front of what it was lent.
-use mathlib.Core.Path.{_≡_, sym, _∙_}
+use mathlib.Core.Path.{sym, _∙_}
 use Prim.Native.Nat.{_+_, _*_}
 use lib.ListN.{length}
 use lib.Seq.{length-take-le}

@@ -13,9 +13,6 @@ use Rattle.model.specs.GridFile.{cellsBytes}
 use Rattle.grid_bytes.proofs.Encoded.{cells-more, take-two}
 use Rattle.grid_bytes.proofs.cells.Statement.{statement}
 use Rattle.grid_bytes.proofs.cells.Tie as tie
-use Rattle.grid_bytes.proofs.cells.Reads as reads
-use Rattle.grid_bytes.proofs.cells.Lts as lts
-use Rattle.numbers.proofs.complement_word.Reads as complement-word-reads
 
 abbrev Inv-loop : tie.InvT-loop
 Inv-loop values out₀ i₀ out i = (i ≤ length values) × (length values ≤ 4096) × (length out ≡ 2 * length values) × (take (2 * i) out ≡ cellsBytes (take i values))

@@ -3,24 +3,18 @@ use native.Mathlib.Omega.{arith}
 use mir.Syntax.{w8}
 use mir.Facts.{toZ-ofZ, toZ-pos}
 use borrow.Author.Needs.{needs}
-use Rattle.numbers.proofs.Signs.{below-zero, from-zero, minus-one-minus}
+use Rattle.numbers.proofs.Signs.{below-zero, from-zero, below-minus}
 use Rattle.numbers.proofs.complement_of.Statement.{statement}
 use Rattle.numbers.proofs.complement_of.Tie as tie
 
 sub-result : tie.Need-sub-result
-sub-result c =
-    let f = c .before .fits .z in
-    rw (toZ-ofZ f, below-zero f (c .if1 .taken), minus-one-minus) (search needs)
+sub-result c = rw (below-minus (c .before .fits .z) (c .if1 .taken)) (search needs)
 
 cast-result : tie.Need-cast-result
-cast-result c =
-    let f = c .before .fits .z in
-    rw (toZ-ofZ f, below-zero f (c .if1 .taken), minus-one-minus, toZ-pos w8 (f .sfits)) (search needs)
+cast-result c = let f = c .before .fits .z in rw (below-minus f (c .if1 .taken), toZ-pos w8 (f .sfits)) (search needs)
 
 sub-result-2 : tie.Need-sub-result-2
-sub-result-2 c =
-    let f = c .before .fits .z in
-    rw (toZ-ofZ f, below-zero f (c .if1 .taken), minus-one-minus, toZ-pos w8 (f .sfits)) (search needs)
+sub-result-2 c = let f = c .before .fits .z in rw (below-minus f (c .if1 .taken), toZ-pos w8 (f .sfits)) (search needs)
 
 cast-result-2 : tie.Need-cast-result-2
 cast-result-2 c =
@@ -30,7 +24,7 @@ cast-result-2 c =
 returns : tie.Need-returns
 returns c =
     let f = c .before .fits .z in
-    rw (toZ-ofZ f, below-zero f (c .if1 .taken), minus-one-minus, toZ-pos w8 (f .sfits)) (omega arith)
+    rw (below-minus f (c .if1 .taken), toZ-pos w8 (f .sfits), below-zero f (c .if1 .taken)) (omega arith)
 
 returns-2 : tie.Need-returns-2
 returns-2 c =

@@ -1,6 +1,5 @@
 -- `shepard_replay::show::each_record` is safe and ends: m turns. Nothing has to hold from turn to turn.
 use Prim.Native.Nat.{_-_}
-use borrow.Author.Needs.{needs}
 use native.Mathlib.Omega.{arith}
 use Rattle.shepard_replay.proofs.show.each_record.Statement.{statement}
 use Rattle.shepard_replay.proofs.show.each_record.Tie as tie

@@ -1,0 +1,29 @@
+"""Holds the shipped sample survey to the script that makes it."""
+
+import subprocess
+import sys
+import tempfile
+import unittest
+from pathlib import Path
+
+import exact
+
+SAMPLE = Path(__file__).parent.parent / "sample"
+
+
+class Sample(unittest.TestCase):
+    def test_is_what_the_script_makes(self):
+        with tempfile.TemporaryDirectory() as folder:
+            made = Path(folder) / "made.rls"
+            subprocess.run([sys.executable, SAMPLE / "make_sample.py", made], check=True)
+            self.assertEqual(made.read_bytes(), (SAMPLE / "worn_drive.rls").read_bytes())
+
+    def test_has_200_points_and_a_proper_grid(self):
+        data = (SAMPLE / "worn_drive.rls").read_bytes()
+        self.assertEqual(len(exact.read_survey_file(data)), 200)
+        cells, _ = exact.grid_program(data)
+        self.assertEqual(len(cells), 64 * 64)
+
+
+if __name__ == "__main__":
+    unittest.main()
