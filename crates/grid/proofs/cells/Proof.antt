@@ -1,5 +1,6 @@
 -- `cells` meets its contract: refused it changes nothing, and accepted it hands on the front of what it was lent.
 use mathlib.Core.Path.{sym, _∙_}
+use native.Mathlib.Omega.{arith}
 use lib.ListN.{length}
 use lib.Seq.{length-take-le}
 use borrow.Author.Needs.{needs}
@@ -33,7 +34,8 @@ slice-relend-prefix-fill c =
     let r = c .before in
     let a = r .before .before .before .args in
     let no = r .refusal .ensures (stateOf (a .s)) (sym (r .before .count .ensures .0)) in
-    grid-fits (gridOf (a .g)) (stateOf (a .s)) (length (a .out .now)) (r .before .before .cell-count .result) (sym no ∙ c .if1 .left) .2
+    let f = grid-fits (gridOf (a .g)) (stateOf (a .s)) (length (a .out .now)) (r .before .before .cell-count .result) (sym no ∙ c .if1 .left) in
+    omega (arith, f .2)
 
 slice-aggregate-fill : tie.Need-slice-aggregate-fill
 slice-aggregate-fill c = sym (length-take-le _ _ (slice-relend-prefix-fill (c .before)))
