@@ -51,34 +51,14 @@ fn refused(no: u8) -> Output
 {
     let mut bytes = blank();
     if no < 10 {
-        let text = [
-            b'r',
-            b'e',
-            b'f',
-            b'u',
-            b's',
-            b'e',
-            b'd',
-            b' ',
-            b'0' + no,
-            b'\n',
-        ];
+        let mut text = *b"refused 0\n";
+        text[8] = b'0' + no;
         bytes::copy(&text, &mut bytes);
         return Output { bytes, length: 10 };
     }
-    let text = [
-        b'r',
-        b'e',
-        b'f',
-        b'u',
-        b's',
-        b'e',
-        b'd',
-        b' ',
-        b'0' + no / 10,
-        b'0' + no % 10,
-        b'\n',
-    ];
+    let mut text = *b"refused 00\n";
+    text[8] = b'0' + no / 10;
+    text[9] = b'0' + no % 10;
     bytes::copy(&text, &mut bytes);
     Output { bytes, length: 11 }
 }

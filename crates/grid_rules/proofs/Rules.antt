@@ -12,20 +12,20 @@ use Rattle.model.specs.Grid.{Grid, axis, proper, gridCheck}
 abbrev pub firstOf : ℕ → ℕ → ℕ → ℕ
 firstOf a b c = cond (eqb a 0) (cond (eqb b 0) c b) a
 
-module _ (start step places : ℕ) where
-  pub no-step : step < 1 → false ≡ axis start step places
+module _ (start step count : ℕ) where
+  pub no-step : step < 1 → false ≡ axis start step count
   no-step h = rw (lt-leb 1 step h)
 
   module _ (apart : 1 ≤ step) where
-    pub no-place : places < 1 → false ≡ axis start step places
-    no-place h = rw (le-leb 1 step apart, lt-leb 1 places h)
+    pub no-count : count < 1 → false ≡ axis start step count
+    no-count h = rw (le-leb 1 step apart, lt-leb 1 count h)
 
-    module _ (some : 1 ≤ places) where
-      pub too-many : 64 < places → false ≡ axis start step places
-      too-many h = rw (le-leb 1 step apart, le-leb 1 places some, lt-leb places 64 h)
+    module _ (some : 1 ≤ count) where
+      pub too-many : 64 < count → false ≡ axis start step count
+      too-many h = rw (le-leb 1 step apart, le-leb 1 count some, lt-leb count 64 h)
 
-      pub last-decides : places ≤ 64 → leb (start + (places - 1) * step) 4095 ≡ axis start step places
-      last-decides h = rw (le-leb 1 step apart, le-leb 1 places some, le-leb places 64 h)
+      pub last-decides : count ≤ 64 → leb (start + (count - 1) * step) 4095 ≡ axis start step count
+      last-decides h = rw (le-leb 1 step apart, le-leb 1 count some, le-leb count 64 h)
 
 pub in-order : (g : Grid) (s : State) (n : ℕ) → firstOf (cond (proper g) 0 7) (cond (eqb (length (s .points)) 0) 6 0) n ≡ gridCheck g s n
 in-order g s n = by-rules (proper g) (eqb (length (s .points)) 0)

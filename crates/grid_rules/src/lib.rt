@@ -19,7 +19,7 @@ pub struct Grid {
     pub rows: u16,
 }
 
-// Where place i of an axis is, counted from 0; it may lie past 16 bits.
+// Where column or row i is, counted from 0; it may lie past 16 bits.
 pub fn coordinate(start: u16, step: u16, i: usize) -> u32
     requires { ⌜ i < 64 ⌝ }
     ensures { λ r. ⌜ r ≡ start + i * step ⌝ }
@@ -27,20 +27,20 @@ pub fn coordinate(start: u16, step: u16, i: usize) -> u32
     start as u32 + i as u32 * step as u32
 }
 
-// Whether the places of one axis keep the rules.
-fn is_axis(start: u16, step: u16, places: u16) -> bool
-    ensures { λ r. ⌜ r ≡ axis start step places ⌝ }
+// Whether the columns or the rows keep the rules.
+fn is_axis(start: u16, step: u16, count: u16) -> bool
+    ensures { λ r. ⌜ r ≡ axis start step count ⌝ }
 {
     if step < 1 {
         return false;
     }
-    if places < 1 {
+    if count < 1 {
         return false;
     }
-    if 64 < places {
+    if 64 < count {
         return false;
     }
-    let last = places as usize - 1;
+    let last = count as usize - 1;
     coordinate(start, step, last) <= 4095
 }
 

@@ -18,22 +18,22 @@ use Rattle.laws.proofs.ListLaws.{length-tabulate}
 use Rattle.laws.proofs.Tests.{cond-zero, cond-sound}
 
 -- an axis that keeps the rules
-pub record Axis (start step places : ℕ) : Type 0 where
+pub record Axis (start step count : ℕ) : Type 0 where
   pub apart : 1 ≤ step
-  pub some : 1 ≤ places
-  pub few : places ≤ 64
-  pub last : start + (places - 1) * step ≤ 4095
+  pub some : 1 ≤ count
+  pub few : count ≤ 64
+  pub last : start + (count - 1) * step ≤ 4095
 
-pub axis-keeps : (start step places : ℕ) → axis start step places ≡ true → Axis start step places
-axis-keeps start step places h =
-    let a = and-eq-true-iff (leb 1 step && leb 1 places && leb places 64) (leb (start + (places - 1) * step) 4095) .0 h in
-    let b = and-eq-true-iff (leb 1 step && leb 1 places) (leb places 64) .0 (a .0) in
-    let c = and-eq-true-iff (leb 1 step) (leb 1 places) .0 (b .0) in
-    record { apart = leb-true 1 step (c .0); some = leb-true 1 places (c .1); few = leb-true places 64 (b .1); last = leb-true (start + (places - 1) * step) 4095 (a .1) }
+pub axis-keeps : (start step count : ℕ) → axis start step count ≡ true → Axis start step count
+axis-keeps start step count h =
+    let a = and-eq-true-iff (leb 1 step && leb 1 count && leb count 64) (leb (start + (count - 1) * step) 4095) .0 h in
+    let b = and-eq-true-iff (leb 1 step && leb 1 count) (leb count 64) .0 (a .0) in
+    let c = and-eq-true-iff (leb 1 step) (leb 1 count) .0 (b .0) in
+    record { apart = leb-true 1 step (c .0); some = leb-true 1 count (c .1); few = leb-true count 64 (b .1); last = leb-true (start + (count - 1) * step) 4095 (a .1) }
 
-pub axis-inside : (start step places i : ℕ) → Axis start step places → i < places → start + i * step < 4096
-axis-inside start step places i a h =
-    let m : i * step ≤ (places - 1) * step = mul-le-mul-right step (omega arith) in
+pub axis-inside : (start step count i : ℕ) → Axis start step count → i < count → start + i * step < 4096
+axis-inside start step count i a h =
+    let m : i * step ≤ (count - 1) * step = mul-le-mul-right step (omega arith) in
     omega (arith, m, a .last)
 
 pub proper-axes : (g : Grid) → proper g ≡ true → Axis (g .x0) (g .stepX) (g .columns) × Axis (g .y0) (g .stepY) (g .rows)

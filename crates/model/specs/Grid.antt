@@ -18,9 +18,9 @@ pub record Grid : Type 0 where
   pub columns : ℕ
   pub rows : ℕ
 
--- the rules of one axis: a step of at least 1, 1 to 64 places, the last one in the domain
+-- the rules of one axis: a step of at least 1, 1 to 64 columns or rows, the last one in the domain
 abbrev pub axis : ℕ → ℕ → ℕ → Bool
-axis start step places = leb 1 step && leb 1 places && leb places 64 && leb (start + (places - 1) * step) 4095
+axis start step count = leb 1 step && leb 1 count && leb count 64 && leb (start + (count - 1) * step) 4095
 
 abbrev pub proper : Grid → Bool
 proper g = axis (g .x0) (g .stepX) (g .columns) && axis (g .y0) (g .stepY) (g .rows)

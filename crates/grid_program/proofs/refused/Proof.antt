@@ -9,8 +9,11 @@ use Rattle.grid_program.proofs.refused.Tie as tie
 blank-requires : tie.Need-blank-requires
 blank-requires c κs = search needs
 
-add-t7 : tie.Need-add-t7
-add-t7 c = search needs
+add-text : tie.Need-add-text
+add-text c = search needs
+
+array-write-text : tie.Need-array-write-text
+array-write-text c = search needs
 
 slice-aggregate-copy : tie.Need-slice-aggregate-copy
 slice-aggregate-copy c = search needs
@@ -22,13 +25,21 @@ copy-requires : tie.Need-copy-requires
 copy-requires c κs = search needs
 
 returns : tie.Need-returns
-returns c = rw (c .before .copy .ensures .1, lt-ltb (c .before .before .before .before .before .before .args .no) 10 (c .before .before .before .before .if1 .taken)) (record { front = refl; room = omega arith })
+returns c =
+    let d = c .before .before .before .before .before .before in
+    rw (c .before .copy .ensures .1, lt-ltb (d .before .before .args .no) 10 (omega arith)) (record { front = refl; room = omega arith })
 
-add-t15 : tie.Need-add-t15
-add-t15 c = search needs
+add-text-2 : tie.Need-add-text-2
+add-text-2 c = search needs
 
-add-t17 : tie.Need-add-t17
-add-t17 c = search needs
+array-write-text-2 : tie.Need-array-write-text-2
+array-write-text-2 c = search needs
+
+add-text-3 : tie.Need-add-text-3
+add-text-3 c = search needs
+
+array-write-text-3 : tie.Need-array-write-text-3
+array-write-text-3 c = search needs
 
 slice-aggregate-copy-3 : tie.Need-slice-aggregate-copy-3
 slice-aggregate-copy-3 c = search needs
@@ -40,20 +51,25 @@ copy-requires-2 : tie.Need-copy-requires-2
 copy-requires-2 c κs = search needs
 
 returns-2 : tie.Need-returns-2
-returns-2 c = rw (c .before .copy2 .ensures .1, le-ltb (c .before .before .before .before .before .before .args .no) 10 (omega arith)) (record { front = refl; room = omega arith })
+returns-2 c =
+    let d = c .before .before .before .before .before .before in
+    rw (c .before .copy2 .ensures .1, le-ltb (d .before .before .args .no) 10 (omega arith)) (record { front = refl; room = omega arith })
 
 pub refused-spec : {M : Type 1} → statement M
 refused-spec =
     tie.close
     (tie.spec
     blank-requires
-    add-t7
+    add-text
+    array-write-text
     slice-aggregate-copy
     slice-aggregate-copy-2
     copy-requires
     returns
-    add-t15
-    add-t17
+    add-text-2
+    array-write-text-2
+    add-text-3
+    array-write-text-3
     slice-aggregate-copy-3
     slice-aggregate-copy-4
     copy-requires-2
