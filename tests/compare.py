@@ -201,8 +201,7 @@ def check_replies(journal, outcome, counts):
 
 
 def check_journal(journal, command, seconds, counts):
-    data = b"".join(map(protocol.encode, journal.calls)) + journal.bad
-    check_replies(journal, run_program(command, data, seconds), counts)
+    check_replies(journal, run_program(command, journals.encode(journal), seconds), counts)
     counts["call lists"] += 1
 
 
@@ -260,8 +259,7 @@ def difference_in_journal(journal, difference, command, seconds):
     difference.shown = [protocol.describe(call) for call in journal.calls]
     if journal.bad:
         difference.shown.append("bad end " + protocol.hexadecimal(journal.bad))
-    data = b"".join(map(protocol.encode, journal.calls)) + journal.bad
-    difference.path = keep(data, ".journal")
+    difference.path = keep(journals.encode(journal), ".journal")
     return difference
 
 

@@ -25,6 +25,10 @@ class Journal(NamedTuple):
     bad: bytes = b""
 
 
+def encode(journal):
+    return b"".join(map(protocol.encode, journal.calls)) + journal.bad
+
+
 class GridInput(NamedTuple):
     """A whole standard input of shepard_grid."""
 

@@ -1,0 +1,101 @@
+"""The journal of shepard_replay's stored test: every call, every refusal, a bad end.
+
+    python3 tests/stored_journal.py > crates/shepard_replay/stdin
+
+What the program must write to it is kept in crates/shepard_replay/stdout; test_stored.py holds both
+files to this list and to exact.py.
+"""
+
+import sys
+
+import damage
+import journals
+import protocol
+from protocol import Call
+
+GRID = (0, 0, 1, 1, 2, 1)
+PAIR = damage.records_of([(3, 0, 0), (6, 0, 90)])
+FULL = damage.records_of([(16 * i, 15 * i, i - 128) for i in range(256)])
+FIVE = ((95, 100, 0), (100, 95, 0), (100, 105, 0), (103, 104, 98), (105, 100, 0))
+# The last add lacks a byte.
+BAD_END = protocol.encode(Call("a", (1, 1, 1)))[:-1]
+
+
+def calls_of(letter, *arguments):
+    return [Call(letter, numbers) for numbers in arguments]
+
+
+def loads(*files):
+    return [protocol.load(file) for file in files]
+
+
+def on_none():
+    """No point is present."""
+    calls = calls_of("q", (0, 0), (4096, 0))
+    calls += calls_of("n", (0, 0, 10), (0, 0, 0), (0, 4096, 2))
+    calls += calls_of("w", (12,), (11,), (0,), (14,))
+    calls += [Call("d", (1, 1)), Call("c", (1, 1, 1)), Call("k")]
+    return calls + calls_of("g", (*GRID, 3), (*GRID, 0)) + calls_of("f", (*GRID, 5), (*GRID, 0))
+
+
+def on_two():
+    """Two points; refusals 1 to 4, at the limits of locations and values; lent bytes."""
+    calls = calls_of("a", (3, 0, 0), (6, 0, 90)) + [Call("q", (0, 0))]
+    calls += calls_of("n", (0, 0, 10), (0, 0, 12), (0, 0, 9), (0, 0, 0), (3, 0, 10))
+    calls += [Call("q", (6, 0)), Call("a", (3, 0, 5))]
+    calls += calls_of("a", (4096, 0, 0), (0, 4096, 0), (2**32 - 1, 0, 200))
+    calls += [Call("a", (9, 9, z)) for z in (128, -129, 2**31 - 1, -(2**31))]
+    calls += calls_of("a", (4095, 4095, 127), (0, 4095, -128))
+    calls += calls_of("c", (4095, 4095, -1), (4095, 4094, -1), (4096, 0, 128), (3, 0, 128))
+    calls += calls_of("d", (4095, 4095), (4095, 4095), (0, 65_536), (0, 4095))
+    return calls + [Call("q", (2**32 - 1, 1))] + calls_of("w", (22,), (21,), (25,), (0,))
+
+
+def files():
+    """Accepted files, and refusals 9 to 15."""
+    sound, beside = damage.assemble(b"", PAIR), damage.records_of([(5, 4095, 0), (5, 4096, 0)])
+    descending = [*damage.records_of([(6, 0, 1)]), *damage.records_of([(3, 0, 1)])]
+    calls = loads(sound, damage.assemble(b"notes", PAIR)) + [Call("q", (0, 0))]
+    calls += loads(b"", bytes(11), bytes(12))
+    calls += loads(damage.assemble(b"", [], count=257), damage.assemble(b"", [], count=1))
+    calls += loads(damage.assemble(b"", PAIR, count=3, back=15))
+    calls += loads(damage.assemble(b"", PAIR, total=sum(b"".join(PAIR)) + 1))
+    calls += loads(damage.assemble(b"", damage.records_of([(4096, 0, 0)])))
+    calls += loads(damage.assemble(b"", beside), damage.assemble(b"", descending))
+    calls += loads(damage.assemble(b"", damage.records_of([(3, 0, 1), (3, 0, 2)])))
+    calls += [Call("w", (22,)), *loads(damage.assemble(b"", [])), Call("q", (1, 1))]
+    return calls + [Call("w", (12,))]
+
+
+def on_full():
+    """256 points: 5, and room again after a drop."""
+    calls = loads(damage.assemble(b"", FULL)) + [Call("a", (1, 1, 1)), Call("d", (16, 15))]
+    calls += calls_of("a", (1, 1, 1), (2, 1, 1)) + calls_of("q", (1, 1), (2000, 2000))
+    calls += calls_of("n", (2000, 2000, 10), (4095, 0, 32))
+    return calls + [Call("k"), Call("q", (1, 1))]
+
+
+def rows():
+    """Document 01's rows with all points tapered, and with all at the edge."""
+    twelve = journals.EXAMPLES[-1][0]
+    calls = calls_of("a", *FIVE) + [Call("n", (100, 100, 11)), Call("k")]
+    return calls + calls_of("a", *twelve) + [Call("n", (100, 100, 10)), Call("q", (0, 0))]
+
+
+def grids():
+    """7, 8, the tail of longer lists, and document 01's whole case."""
+    calls = [Call("k"), Call("g", (0, 0, 0, 1, 2, 1, 2)), Call("a", (3, 0, -7))]
+    calls += calls_of("g", (*GRID, 2), (*GRID, 1), (*GRID, 4))
+    calls += calls_of("f", (*GRID, 24), (*GRID, 23), (*GRID, 27))
+    calls += calls_of("g", (0, 0, 1, 1, 65, 1, 3), (4095, 0, 1, 1, 2, 1, 0))
+    calls += calls_of("f", (0, 4096, 1, 1, 1, 1, 3), (*[65_535] * 6, 0))
+    return calls + calls_of("g", (4094, 4095, 1, 9, 2, 1, 2))
+
+
+def make():
+    calls = on_none() + on_two() + files() + on_full() + rows() + grids()
+    return journals.Journal("stored", calls, BAD_END)
+
+
+if __name__ == "__main__":
+    sys.stdout.buffer.write(journals.encode(make()))
