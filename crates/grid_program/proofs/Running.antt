@@ -59,7 +59,7 @@ module _ (f : List ℕ) where
         let not-zero : programRefusal f ≡ 0 → ⊥ = λ k. h (sym e ∙ k) in
         record { output = rw (refused-output f not-zero, e) p; right = λ k. absurd (not-zero k) }
 
-    pub ends-file : programRefusal f ≡ 0 → take (r .length) (r .bytes) ≡ gridFile (stateIn f) (gridIn f) → r .length ≤ length (r .bytes) → CellsRight (stateIn f) (gridIn f) → RunsAs f r
+    ends-file : programRefusal f ≡ 0 → take (r .length) (r .bytes) ≡ gridFile (stateIn f) (gridIn f) → r .length ≤ length (r .bytes) → CellsRight (stateIn f) (gridIn f) → RunsAs f r
     ends-file e p room right = record { output = record { front = p ∙ sym (file-output f e); room = room }; right = λ _. right }
 
 -- an accepted file that was read, and how many points it has

@@ -24,14 +24,14 @@ pub record Axis (start step count : ℕ) : Type 0 where
   pub few : count ≤ 64
   pub last : start + (count - 1) * step ≤ 4095
 
-pub axis-keeps : (start step count : ℕ) → axis start step count ≡ true → Axis start step count
+axis-keeps : (start step count : ℕ) → axis start step count ≡ true → Axis start step count
 axis-keeps start step count h =
     let a = and-eq-true-iff (leb 1 step && leb 1 count && leb count 64) (leb (start + (count - 1) * step) 4095) .0 h in
     let b = and-eq-true-iff (leb 1 step && leb 1 count) (leb count 64) .0 (a .0) in
     let c = and-eq-true-iff (leb 1 step) (leb 1 count) .0 (b .0) in
     record { apart = leb-true 1 step (c .0); some = leb-true 1 count (c .1); few = leb-true count 64 (b .1); last = leb-true (start + (count - 1) * step) 4095 (a .1) }
 
-pub axis-inside : (start step count i : ℕ) → Axis start step count → i < count → start + i * step < 4096
+axis-inside : (start step count i : ℕ) → Axis start step count → i < count → start + i * step < 4096
 axis-inside start step count i a h =
     let m : i * step ≤ (count - 1) * step = mul-le-mul-right step (omega arith) in
     omega (arith, m, a .last)
@@ -41,7 +41,7 @@ proper-axes g h =
     let a = and-eq-true-iff (axis (g .x0) (g .stepX) (g .columns)) (axis (g .y0) (g .stepY) (g .rows)) .0 h in
     (axis-keeps (g .x0) (g .stepX) (g .columns) (a .0), axis-keeps (g .y0) (g .stepY) (g .rows) (a .1))
 
-pub grid-accepted : (g : Grid) (s : State) (n : ℕ) → gridCheck g s n ≡ 0 → (proper g ≡ true) × (0 < length (s .points)) × (n ≡ 0)
+grid-accepted : (g : Grid) (s : State) (n : ℕ) → gridCheck g s n ≡ 0 → (proper g ≡ true) × (0 < length (s .points)) × (n ≡ 0)
 grid-accepted g s n h =
     let rules = cond-sound (proper g) 6 (nonEmpty s n) h in
     let some = cond-zero (eqb (length (s .points)) 0) 5 n (rules .1) in
@@ -62,7 +62,7 @@ module _ (s : State) (g : Grid) where
   unfolding row
   length-row r = length-tabulate (λ c. answer s (cellLocation g c r)) (g .columns)
 
-  pub length-rows : (n : ℕ) → length (rowsOf s g n) ≡ g .columns * n
+  length-rows : (n : ℕ) → length (rowsOf s g n) ≡ g .columns * n
   unfolding rowsOf
   length-rows zero = omega arith
   length-rows (suc n) = omega (arith, length-append (rowsOf s g n) (row s g n), length-rows n, length-row n)
@@ -76,7 +76,7 @@ unfolding cellsBytes flatMap
 length-cells-bytes [] = refl
 length-cells-bytes (a ∷ l) = omega (arith, length-cells-bytes l)
 
-pub length-file-of-cells : (g : Grid) (l : List ℤ) → length (fileOfCells g l) ≡ 2 * length l + 20
+length-file-of-cells : (g : Grid) (l : List ℤ) → length (fileOfCells g l) ≡ 2 * length l + 20
 unfolding fileOfCells
 length-file-of-cells g l = omega (arith, length-append (cellsBytes l) (gridTrailer g (length (cellsBytes l))), length-cells-bytes l)
 
