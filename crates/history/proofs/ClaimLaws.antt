@@ -12,6 +12,7 @@ use Rattle.laws.proofs.CallLaws.{lookup-none, lookup-some}
 use Rattle.survey.specs.declared.Answer.{Answer}
 use Rattle.survey.specs.declared.Answer.the-variants.{Refused}
 use Rattle.survey.specs.Answers.{found, lookedUp, Rounded}
+use Rattle.survey.proofs.Looking.{looked-up}
 use Rattle.history.specs.Claim.{Claim}
 
 none-or-some : (l : List Point) → (l ≡ []) ⊎ (l ≡ [] → ⊥)
@@ -24,8 +25,7 @@ module _ (x y : ℕ) (s : State) (on : inDomain x y ≡ true) where
   looked-none e = rw (lookup-none x y s on e)
 
   looked-some : (s .points ≡ [] → ⊥) → lookedUp s x y ≡ found s (location x y)
-  unfolding lookedUp
-  looked-some h = rw (lookup-some x y s on h)
+  looked-some h = looked-up s x y (lookup-some x y s on h)
 
 pub claim-of : (x y : ℕ) (s : State) (a : Answer) → a ≡ lookedUp s x y → Rounded s (location x y) a → Claim x y s a
 unfolding Rounded

@@ -2,24 +2,24 @@
 use mathlib.Core.Path.{_≡_}
 use Prim.Native.Nat.{ℕ, _+_, _≤_}
 use native.Mathlib.Omega.{arith}
-use mathlib.Core.List.{List, _++_, append-assoc, append-nil}
+use mathlib.Core.List.{List, [], _++_, append-assoc, append-nil}
 use lib.ListN.{length, take, drop, length-append, length-drop, drop-of-length-le}
 use lib.Seq.{take-at, drop-at, take-all, drop-drop, length-take-le}
 use borrow.Rule.Slice.PartMut.{midOf, postOf, putMid}
 use Rattle.model.specs.Lists.{laid}
 
--- a list up to the end of its part from a on, which was written over
-pub take-over : {A : Type 0} (a k : ℕ) (l vs : List A) → a ≤ length l → take (a + length vs) (putMid a k l vs) ≡ take a l ++ vs
-take-over a k l vs h =
-    let e : length (take a l ++ vs) ≡ a + length vs = omega (arith, length-append (take a l) vs, length-take-le a l h) in
-    rw (← append-assoc (take a l) vs) (take-at (take a l ++ vs) (postOf a k l) (a + length vs) e)
-
--- a list up to the end of what was written to the front of its part from a on
-pub take-laid : {A : Type 0} (a k : ℕ) (l vs : List A) → a ≤ length l → take (a + length vs) (putMid a k l (laid vs (midOf a k l))) ≡ take a l ++ vs
-take-laid a k l vs h =
-    let rest = drop (length vs) (midOf a k l) in
+-- a list up to the end of the first of two lists that its part from a on was written over with
+take-first : {A : Type 0} (a k : ℕ) (l vs rest : List A) → a ≤ length l → take (a + length vs) (putMid a k l (vs ++ rest)) ≡ take a l ++ vs
+take-first a k l vs rest h =
     let e : length (take a l ++ vs) ≡ a + length vs = omega (arith, length-append (take a l) vs, length-take-le a l h) in
     rw (append-assoc vs rest (postOf a k l), ← append-assoc (take a l) vs) (take-at (take a l ++ vs) (rest ++ postOf a k l) (a + length vs) e)
+
+-- where that is all that was written, and where it was written to the front of the part
+pub take-over : {A : Type 0} (a k : ℕ) (l vs : List A) → a ≤ length l → take (a + length vs) (putMid a k l vs) ≡ take a l ++ vs
+take-over a k l vs h = rw (append-nil) at (take-first a k l vs [] h)
+
+pub take-laid : {A : Type 0} (a k : ℕ) (l vs : List A) → a ≤ length l → take (a + length vs) (putMid a k l (laid vs (midOf a k l))) ≡ take a l ++ vs
+take-laid a k l vs h = take-first a k l vs (drop (length vs) (midOf a k l)) h
 
 -- what was written to the front of the part after p, once p was written to the front of d, stands after p
 pub laid-after : {A : Type 0} (a k : ℕ) (p r d : List A) → length p ≡ a → length d ≤ a + k

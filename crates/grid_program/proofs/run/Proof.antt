@@ -1,12 +1,12 @@
 -- `run` meets its contract: a file that is read gives the preamble's length by its count, and the grid's refusal is then the program's.
 use mathlib.Core.Path.{refl, sym, _∙_}
 use native.Mathlib.Omega.{arith}
+use lib.ListN.{length-take, length-drop}
+use borrow.Author.Needs.{needs}
 use Rattle.laws.proofs.ProgramLaws.{file-decides, preamble-decides}
 use Rattle.survey.specs.Held.{stateOf}
 use Rattle.grid_rules.specs.Held.{gridOf}
 use Rattle.grid_program.proofs.Running.{load-number, load-state, ends-refused, preamble-short, preamble-long, six-first, grid-refused, grid-written}
-use lib.ListN.{length-take, length-drop}
-use borrow.Author.Needs.{needs}
 use Rattle.grid_program.proofs.run.Statement.{statement}
 use Rattle.grid_program.proofs.run.Tie as tie
 
