@@ -46,7 +46,7 @@ call-back (Load f) n j fs h =
     let e : 4294967296 * low (length f / 4294967296) + low (length f) ≡ length f = omega arith in
     record-back 4 (length f / 4294967296) (length f) 0 n j (f ++ fs) ∙ rw (e, take-append-seam, drop-append-seam)
 call-back (Lookup x y) n j fs h = record-back 5 x y 0 n j fs ∙ rw (mod-eq-of-lt (h .0), mod-eq-of-lt (h .1))
-call-back (LookupNeighbours x y m) n j fs h = record-back 6 x y 0 n j fs ∙ rw (mod-eq-of-lt (h .0 .0), mod-eq-of-lt (h .0 .1), h .1)
+call-back (LookupNeighbours x y m) n j fs h = record-back 6 x y m n j fs ∙ rw (mod-eq-of-lt (h .0 .0), mod-eq-of-lt (h .0 .1), mod-eq-of-lt (h .1))
 
 each-back : (cs : List Call) → All Callable cs → firstCalls (length cs) (encoded cs) (files cs) ≡ cs
 unfolding firstCalls encoded files flatMap
@@ -77,7 +77,7 @@ written (Drop x y) h = written-of 2 x y 0 [] (omega arith) tt
 written Clear h = written-of 3 0 0 0 [] (omega arith) tt
 written (Load f) h = written-of 4 (length f / 4294967296) (length f) 0 f (omega arith) (h .0)
 written (Lookup x y) h = written-of 5 x y 0 [] (omega arith) tt
-written (LookupNeighbours x y n) h = written-of 6 x y 0 [] (omega arith) tt
+written (LookupNeighbours x y n) h = written-of 6 x y n [] (omega arith) tt
 
 encoded-length : (cs : List Call) → All Callable cs → length (encoded cs) ≡ 13 * length cs
 unfolding encoded flatMap

@@ -1,12 +1,13 @@
--- Demand 3, of one lookup in what is present.
-use Prim.Native.Nat.{ℕ}
+-- Demand 3, of one lookup in what is present, and of one that is lent neighbour records.
+use Prim.Native.Nat.{ℕ, _<_, _≤_}
 use mathlib.Core.Path.{_≡_}
 use mathlib.Core.Logic.{_↔_}
 use mathlib.Core.Bool.{true}
-use mathlib.Core.List.{[]}
+use mathlib.Core.List.{List, []}
 use lib.IntN.{ℤ}
 use Rattle.model.specs.Point.{State, location, inDomain}
 use Rattle.model.specs.Mean.{Right}
+use Rattle.records.specs.declared.Record.{Record}
 use Rattle.survey.specs.declared.Answer.{Answer}
 use Rattle.survey.specs.declared.Answer.the-variants.{Found, Refused}
 
@@ -15,3 +16,10 @@ use Rattle.survey.specs.declared.Answer.the-variants.{Found, Refused}
 pub record Claim (x y : ℕ) (s : State) (a : Answer) : Type 0 where
   pub six : inDomain x y ≡ true → (a ≡ Refused 6) ↔ (s .points ≡ [])
   pub right : inDomain x y ≡ true → (s .points ≡ [] → ⊥) → (v : ℤ) × (n r : ℕ) × (a ≡ Found v n r) × Right s (location x y) v
+
+-- where n records are lent, of a list that was l and is k after it: under ten give 8, after 1 and 6, and change nothing; from ten on the claim holds
+pub record ClaimLent (x y n : ℕ) (s : State) (a : Answer) (l k : List Record) : Type 0 where
+  pub six : n < 10 → inDomain x y ≡ true → s .points ≡ [] → a ≡ Refused 6
+  pub eight : n < 10 → inDomain x y ≡ true → (s .points ≡ [] → ⊥) → a ≡ Refused 8
+  pub unaltered : n < 10 → k ≡ l
+  pub enough : 10 ≤ n → Claim x y s a

@@ -1,5 +1,4 @@
 -- A list of calls written as bytes, and which calls the functions' parameters can hold.
-use mathlib.Core.Path.{_≡_}
 use Prim.Native.Nat.{ℕ, _/_, _<_}
 use mathlib.Core.List.{List, [], _∷_, _++_, flatMap}
 use lib.IntN.{ℤ, pos, negsuc}
@@ -21,7 +20,7 @@ callBytes (Drop x y) = callRecord 2 x y 0
 callBytes Clear = callRecord 3 0 0 0
 callBytes (Load f) = callRecord 4 (length f / 4294967296) (length f) 0
 callBytes (Lookup x y) = callRecord 5 x y 0
-callBytes (LookupNeighbours x y n) = callRecord 6 x y 0
+callBytes (LookupNeighbours x y n) = callRecord 6 x y n
 
 -- its file
 abbrev pub callFile : Call → List ℕ
@@ -48,7 +47,7 @@ Words x y = (x < 4294967296) × (y < 4294967296)
 abbrev pub SignedWord : ℤ → Type 0
 SignedWord z = (negsuc 2147483647 ≤ℤ z) × (z ≤ℤ pos 2147483647)
 
--- the functions' parameters hold what the call is handed: a file is a slice of bytes, fewer than 2^64, and the neighbours' records are ten
+-- the functions' parameters hold what the call is handed: a file is a slice of bytes, fewer than 2^64; a record of a call holds how many neighbour records are lent in 32 bits
 abbrev pub Callable : Call → Type 0
 Callable (Add x y z) = Words x y × SignedWord z
 Callable (Change x y z) = Words x y × SignedWord z
@@ -56,4 +55,4 @@ Callable (Drop x y) = Words x y
 Callable Clear = Unit {0}
 Callable (Load f) = Bytes f × (length f < 18446744073709551616)
 Callable (Lookup x y) = Words x y
-Callable (LookupNeighbours x y n) = Words x y × (n ≡ 10)
+Callable (LookupNeighbours x y n) = Words x y × (n < 4294967296)

@@ -8,7 +8,7 @@ use lib.ListN.{length, take, drop, getD}
 use Rattle.model.specs.Bytes.{longAt, signed}
 use Rattle.model.specs.Calls.{Call, Add, Change, Drop, Clear, Load, Lookup, LookupNeighbours}
 
--- 0 add, 1 change, 2 drop, 3 clear, 4 load, 5 lookup; any other number is a lookup with neighbours, which has ten records
+-- 0 add, 1 change, 2 drop, 3 clear, 4 load, 5 lookup; any other number is a lookup with neighbours, lent z records
 unfoldable pub callOf : ℕ → ℕ → ℕ → ℕ → List ℕ → Call
 callOf op x y z file =
     cond (eqb op 0) (Add x y (signed 2147483648 z))
@@ -16,7 +16,7 @@ callOf op x y z file =
     (cond (eqb op 2) (Drop x y)
     (cond (eqb op 3) Clear
     (cond (eqb op 4) (Load file)
-    (cond (eqb op 5) (Lookup x y) (LookupNeighbours x y 10))))))
+    (cond (eqb op 5) (Lookup x y) (LookupNeighbours x y z))))))
 
 -- the length of a load's file, in place of x and y
 unfoldable pub fileLength : ℕ → ℕ → ℕ → ℕ

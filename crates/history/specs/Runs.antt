@@ -3,13 +3,15 @@
 use Prim.Native.Nat.{ℕ}
 use mathlib.Core.List.{List, [], _∷_, _++_}
 use lib.IntN.{ℤ}
+use lib.ListN.{length, take}
 use contract.Lifetimes.{Lfts}
 use denote.Ref.{RefT, now}
 use Rattle.model.specs.Calls.{Call, Add, Change, Drop, Clear, Load, Lookup, LookupNeighbours}
+use Rattle.records.specs.declared.Record.{Record}
 use Rattle.survey.specs.declared.Survey.{Survey}
 use Rattle.survey.specs.declared.Reply.{Reply}
 use Rattle.survey.specs.declared.Answer.{Answer}
-use Rattle.survey.specs.declared.AnswerWithNeighbours.{AnswerWithNeighbours}
+use Rattle.survey.specs.declared.AnswerWithRecords.{AnswerWithRecords}
 use Rattle.survey.proofs.fresh.Reads as fresh-of
 use Rattle.survey.proofs.add.Reads as add-of
 use Rattle.survey.proofs.change.Reads as change-of
@@ -17,7 +19,7 @@ use Rattle.survey.proofs.drop.Reads as drop-of
 use Rattle.survey.proofs.clear.Reads as clear-of
 use Rattle.survey.proofs.load.Reads as load-of
 use Rattle.survey.proofs.lookup.Reads as lookup-of
-use Rattle.survey.proofs.lookup_neighbours.Reads as lookup-neighbours-of
+use Rattle.survey.proofs.lookup_lending.Reads as lookup-lending-of
 
 -- the survey s is what the calls cs, made one after the other on a fresh survey, left
 pub data Runs : List Call → Survey → Type 0 where
@@ -33,5 +35,5 @@ pub data Runs : List Call → Survey → Type 0 where
       → load-of.Post κs (s, (file, tt)) r (s, (file, tt)) → Runs (cs ++ Load (now file) ∷ []) (r .survey)
   lookup : {cs : List Call} {s : Survey} → Runs cs s → (x y : ℕ) (a : Answer)
       → lookup-of.Post tt (s, (x, (y, tt))) a (s, (x, (y, tt))) → Runs (cs ++ Lookup x y ∷ []) s
-  lookup-neighbours : {cs : List Call} {s : Survey} → Runs cs s → (x y : ℕ) (l : AnswerWithNeighbours)
-      → lookup-neighbours-of.Post tt (s, (x, (y, tt))) l (s, (x, (y, tt))) → Runs (cs ++ LookupNeighbours x y 10 ∷ []) s
+  lookup-neighbours : {cs : List Call} {s : Survey} → Runs cs s → (x y : ℕ) (l : List Record) (n : ℕ) (r : AnswerWithRecords)
+      → lookup-lending-of.Post tt (s, (x, (y, (l, (n, tt))))) r (s, (x, (y, (l, (n, tt))))) → Runs (cs ++ LookupNeighbours x y (length (take n l)) ∷ []) s

@@ -1,12 +1,12 @@
 // A list of calls, handed over as bytes, made one after the other on one survey, and a lookup after it.
 ghost use mathlib.Core.Path.{_≡_};
 ghost use Prim.Native.Nat.{_+_, _≤_, min};
-ghost use lib.ListN.{length};
 ghost use Rattle.model.specs.Calls.{after, present};
 ghost use Rattle.survey.specs.Held.{stateOf};
 ghost use Rattle.survey.specs.Answers.{lookedUp};
 ghost use Rattle.history.specs.Claim.{Claim};
 ghost use Rattle.history.specs.Encoding.{callOf, fileLength, calls};
+use records::Record;
 use survey::Answer;
 use survey::Survey;
 
@@ -29,6 +29,17 @@ fn advance(at: usize, n: usize, end: usize) -> usize
         return at + n;
     }
     end
+}
+
+// Records to lend.
+fn blank() -> [Record; 32] {
+    [Record {
+        x: 0,
+        y: 0,
+        z: 0,
+        distance: 0,
+        kind: 0,
+    }; 32]
 }
 
 // One call: the survey that it leaves.
@@ -59,7 +70,7 @@ fn run_call(s: Survey, op: u8, x: u32, y: u32, z: u32, file: &[u8]) -> Survey
         let _ = survey::lookup(s, x, y);
         return s;
     }
-    let _ = survey::lookup_neighbours(s, x, y);
+    let _ = survey::lookup_lending(s, x, y, blank(), z as usize);
     s
 }
 

@@ -6,6 +6,7 @@ use mathlib.Core.Bool.{false}
 use mathlib.Core.List.{List, [], _∷_, map, reverse}
 use lib.Dec.{lit<}
 use lib.IntN.{ℤ, pos, negsuc, _*ℤ_}
+use lib.ListN.{replicate}
 use Rattle.model.specs.Lists.{tabulate}
 use Rattle.model.specs.Point.{Location, Point, State, point, location, surveyOf}
 use Rattle.model.specs.Distance.{distance}
@@ -14,7 +15,7 @@ use Rattle.model.specs.Choice.{choice}
 use Rattle.model.specs.Influence.{influenceAt, kind}
 use Rattle.model.specs.Fraction.{Signed}
 use Rattle.model.specs.Mean.{mean}
-use Rattle.model.specs.Answer.{Neighbour, answer, chosenCount, neighbours}
+use Rattle.model.specs.Answer.{Neighbour, answer, chosenCount, neighbours, neighboursInto}
 use Rattle.model.specs.SurveyFile.{fault}
 use Rattle.model.specs.Calls.{Add, Change, Drop, Clear, Load, Lookup, LookupNeighbours, refusal, fresh, present}
 use Rattle.model.specs.Grid.{Grid, gridRefusal, cells}
@@ -108,6 +109,16 @@ pub calls : (refusal (Add 4096 0 (pos 128)) full ≡ 1)
     × (present (Add 1 2 (pos 3) ∷ Clear ∷ Add 2 1 (pos 4) ∷ Drop 2 1 ∷ Add 2 1 (pos 6) ∷ Load [] ∷ []) ≡ surveyOf (point 2 1 (pos 6) ∷ []))
 unfolding refusal present tabulate
 calls = (refl, refl, refl, refl, refl, refl, refl, refl, refl, refl, refl, refl, refl, refl)
+
+-- a lent list: of eleven records the first two are written, nine are too few, and a refused lookup writes none
+abbrev shown : Neighbour → List ℕ
+shown n = n .x ∷ n .y ∷ n .distance ∷ n .kind ∷ []
+
+pub lent : (neighboursInto shown (two 3 0 (pos 0) 6 0 (pos 90)) 0 0 (replicate 11 []) ≡ (3 ∷ 0 ∷ 768 ∷ 1 ∷ []) ∷ (6 ∷ 0 ∷ 1536 ∷ 1 ∷ []) ∷ replicate 9 [])
+    × (neighboursInto shown (two 3 0 (pos 0) 6 0 (pos 90)) 0 0 (replicate 9 []) ≡ replicate 9 [])
+    × (neighboursInto shown fresh 0 0 (replicate 11 []) ≡ replicate 11 [])
+unfolding neighboursInto
+lent = (refl, refl, refl)
 
 -- 14 before 15 within a record, and record by record; the program on no bytes, and on an empty file with nothing before it
 pub files : (fault (point 5 0 (pos 0) ∷ point 4 4096 (pos 0) ∷ []) ≡ 14)

@@ -1,12 +1,11 @@
 // Neighbour records: what a lookup gives of each chosen point beside its answer.
 ghost use mathlib.Core.Path.{_≡_};
-ghost use mathlib.Core.List.{map};
 ghost use Prim.Native.Nat.{_≤_};
+ghost use lib.ListN.{length, take};
 ghost use Rattle.model.specs.Lists.{laid};
 ghost use Rattle.model.specs.Point.{Location, State};
-ghost use Rattle.model.specs.Answer.{neighbours};
 ghost use Rattle.neighbours.specs.Chose.{Chose};
-ghost use Rattle.records.specs.Records.{recordOf, itemRecord, noRecords};
+ghost use Rattle.records.specs.Records.{itemRecord, Lists};
 use neighbours::Chosen;
 use neighbours::Neighbour;
 
@@ -19,10 +18,14 @@ pub struct Record {
     pub kind: u8,
 }
 
+// Records in order of choice: the first `count` of the items; what the others hold is free.
+pub struct RecordList {
+    pub items: [Record; 10],
+    pub count: usize,
+}
+
 // Ten records of zeros.
-pub fn none() -> [Record; 10]
-    ensures { λ r. ⌜ r ≡ noRecords ⌝ }
-{
+fn blank() -> [Record; 10] {
     [Record {
         x: 0,
         y: 0,
@@ -45,21 +48,45 @@ fn item_record(few: bool, radius: u32, a: Neighbour) -> Record
     }
 }
 
-// The records of the chosen points in order of choice, and zeros behind them.
-pub fn records_of(c: Chosen) -> [Record; 10]
+// No records.
+pub fn none() -> RecordList
+    ensures { λ r. ⌜ r .count ≡ 0 ⌝ }
+{
+    RecordList {
+        items: blank(),
+        count: 0,
+    }
+}
+
+// The records of the chosen points in order of choice.
+pub fn records_of(c: Chosen) -> RecordList
     requires { ⌜ c .count ≤ 10 ⌝ }
-    ensures { λ r. ⌜ ((s : State) (p : Location) → Chose s p c → r ≡ laid (map recordOf (neighbours s p)) noRecords) ⌝ }
+    ensures { λ r. ⌜ ((s : State) (p : Location) → Chose s p c → Lists s p r) ⌝ }
 {
     let items = c.items;
     let n = c.count;
     let few = c.few;
     let radius = c.radius;
-    let mut r = none();
+    let mut r = blank();
     let mut i = 0usize;
     while i < n {
         let a = items[i];
         r[i] = item_record(few, radius, a);
         i += 1;
     }
-    r
+    RecordList { items: r, count: n }
+}
+
+// The records to the front of the lent list; the rest of it is untouched.
+pub fn fill<'a>(list: &'a mut [Record], found: RecordList)
+    requires { ⌜ (found .count ≤ 10) × (found .count ≤ length (now list)) ⌝ }
+    ensures { λ _. ⌜ now (list .exit) ≡ laid (take (found .count) (found .items)) (now (list .entry)) ⌝ }
+{
+    let items = found.items;
+    let count = found.count;
+    let mut i: usize = 0;
+    while i < count {
+        list[i] = items[i];
+        i = i + 1;
+    }
 }

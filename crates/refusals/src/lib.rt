@@ -4,7 +4,7 @@ ghost use mathlib.Core.List.{List};
 ghost use Prim.Native.Nat.{ℕ};
 ghost use lib.IntN.{ℤ};
 ghost use Rattle.model.specs.Point.{inDomain, inRange};
-ghost use Rattle.model.specs.Calls.{Add, Change, Drop, Lookup, taken, onDomain, withinRange, refusal};
+ghost use Rattle.model.specs.Calls.{Add, Change, Drop, Lookup, LookupNeighbours, taken, onDomain, withinRange, refusal};
 ghost use Rattle.columns.specs.Columns.{pointsIn, surveyIn};
 
 fn is_in_domain(x: u32, y: u32) -> bool
@@ -94,6 +94,20 @@ pub fn of_lookup(n: usize, x: u32, y: u32) -> u8
     }
     if n == 0 {
         return 6;
+    }
+    0
+}
+
+// The same where `lent` neighbour records are lent.
+pub fn of_lookup_neighbours(n: usize, x: u32, y: u32, lent: usize) -> u8
+    ensures { λ r. ⌜ ((xs ys : List ℕ) (zs : List ℤ) → r ≡ refusal (LookupNeighbours x y lent) (surveyIn xs ys zs n)) ⌝ }
+{
+    let no = of_lookup(n, x, y);
+    if no != 0 {
+        return no;
+    }
+    if lent < 10 {
+        return 8;
     }
     0
 }

@@ -1,4 +1,5 @@
 // The line that shows all that was lent to a call, as it is after the call. Before it every lent byte is A5 hexadecimal, every lent cell A5A5, which is -23131, and every field of a lent record A5, so that what a call left alone is seen.
+ghost use Prim.Native.Nat.{_≤_};
 use records::Record;
 use text::chunk;
 
@@ -40,23 +41,15 @@ pub fn values(lent: &[i16]) {
     text::line_feed();
 }
 
-// A lent record that no call has filled.
-fn untouched() -> Record {
-    Record {
+// Records that no call has written to.
+pub fn untouched() -> [Record; 32] {
+    [Record {
         x: 165,
         y: 165,
         z: -91,
         distance: 165,
         kind: 165,
-    }
-}
-
-// The list's record at i where it is filled.
-fn record_at(list: [Record; 10], filled: usize, i: usize) -> Record {
-    if i < filled && i < 10 {
-        return list[i];
-    }
-    untouched()
+    }; 32]
 }
 
 // A value as a wider number.
@@ -78,21 +71,25 @@ fn record(r: Record, line: &mut [u8; 2048], waiting: usize) -> usize {
     chunk::number(line, n, r.kind as u64)
 }
 
-fn each_record(list: [Record; 10], filled: usize, m: usize) {
+fn each_record(list: [Record; 32], m: usize)
+    requires { ⌜ m ≤ 32 ⌝ }
+{
     let mut line = [0u8; 2048];
     let mut n = 0usize;
     let mut i = 0usize;
     while i < m {
-        let r = record_at(list, filled, i);
+        let r = list[i];
         n = record(r, &mut line, n);
         i += 1;
     }
     chunk::write(&line, n);
 }
 
-// Of m records the first `filled` are the list's; the others are untouched.
-pub fn records(list: [Record; 10], filled: usize, m: usize) {
+// Of the list the first m were lent.
+pub fn records(list: [Record; 32], m: usize)
+    requires { ⌜ m ≤ 32 ⌝ }
+{
     text::word(b"records");
-    each_record(list, filled, m);
+    each_record(list, m);
     text::line_feed();
 }

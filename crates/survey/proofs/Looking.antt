@@ -1,21 +1,21 @@
 -- What a lookup answers, from the refusal and from the answer worked out over the arrays.
-use mathlib.Core.Path.{_≡_, refl}
+use mathlib.Core.Path.{_≡_, sym, _∙_}
 use Prim.Native.Nat.{ℕ, _<_}
-use mathlib.Core.List.{map}
+use native.Mathlib.Omega.{arith}
 use lib.ListN.{length}
 use borrow.Author.Tests.{eq-eqb, ne-eqb}
-use Rattle.model.specs.Lists.{laid}
 use Rattle.model.specs.Point.{State, location}
-use Rattle.model.specs.Answer.{neighbours}
+use Rattle.model.specs.Answer.{neighboursInto}
 use Rattle.model.specs.Calls.{Lookup, LookupNeighbours, refusal}
 use Rattle.laws.proofs.RecordLaws.{domain-bounds}
-use Rattle.laws.proofs.CallLaws.{lookup-accepted}
-use Rattle.records.specs.Records.{recordOf, noRecords}
+use Rattle.laws.proofs.CallLaws.{lookup-accepted, neighbours-accepted}
+use Rattle.records.specs.declared.RecordList.{RecordList}
+use Rattle.records.specs.Records.{Lists}
 use Rattle.mean.specs.declared.Answered.{Answered}
 use Rattle.mean.specs.Answers.{AnswersAs}
 use Rattle.survey.specs.declared.Answer.{Answer}
 use Rattle.survey.specs.declared.Answer.the-variants.{Found, Refused}
-use Rattle.survey.specs.Answers.{found, lookedUp, Rounded, tenRecords}
+use Rattle.survey.specs.Answers.{found, lookedUp, lookedUpLent, Rounded, Selects}
 
 module _ (s : State) (x y : ℕ) where
   pub lookup-bounds : refusal (Lookup x y) s ≡ 0 → (x < 4096) × (y < 4096) × (0 < length (s .points))
@@ -24,30 +24,47 @@ module _ (s : State) (x y : ℕ) where
       let b = domain-bounds x y (a .0) in
       (b .0, b .1, a .1)
 
-  neighbours-refusal : refusal (LookupNeighbours x y 10) s ≡ refusal (Lookup x y) s
-  unfolding refusal
-  neighbours-refusal = refl
+  pub looked-up : refusal (Lookup x y) s ≡ 0 → lookedUp s x y ≡ found s (location x y)
+  unfolding lookedUp
+  looked-up e = rw (eq-eqb (refusal (Lookup x y) s) 0 e)
 
-  module _ (n : ℕ) (e : n ≡ refusal (Lookup x y) s) (h : n ≡ 0 → ⊥) where
-    pub looked-refused : (Refused n ≡ lookedUp s x y) × Rounded s (location x y) (Refused n)
-    unfolding lookedUp Rounded
-    looked-refused = (rw (← e, ne-eqb n 0 h), tt)
+  pub looked-refused : (n : ℕ) → n ≡ refusal (Lookup x y) s → (n ≡ 0 → ⊥) → (Refused n ≡ lookedUp s x y) × Rounded s (location x y) (Refused n)
+  unfolding lookedUp Rounded
+  looked-refused n e h = (rw (← e, ne-eqb n 0 h), tt)
 
-    pub records-refused : noRecords ≡ tenRecords s x y
-    unfolding tenRecords
-    records-refused = rw (neighbours-refusal, ← e, ne-eqb n 0 h)
+  -- an answer worked out over the arrays is what is found
+  module _ (a : Answered) (r : Answer) (g : r ≡ Found (a .answer) (a .chosen .count) (a .chosen .radius)) (h : AnswersAs s (location x y) a) where
+    was-found : r ≡ found s (location x y)
+    was-found = rw (g, h .answer, h .chosen .count, h .chosen .radius)
 
-  module _ (e : refusal (Lookup x y) s ≡ 0) where
-    pub looked-up : lookedUp s x y ≡ found s (location x y)
-    unfolding lookedUp
-    looked-up = rw (eq-eqb (refusal (Lookup x y) s) 0 e)
+    was-rounded : Rounded s (location x y) r
+    unfolding Rounded
+    was-rounded = rw g (h .right)
 
-    pub looked-found : (a : Answered) (r : Answer) → r ≡ Found (a .answer) (a .chosen .count) (a .chosen .radius) → AnswersAs s (location x y) a
-        → (r ≡ lookedUp s x y) × Rounded s (location x y) r
-    unfolding lookedUp Rounded
-    looked-found a r g h =
-        rw g (rw (eq-eqb (refusal (Lookup x y) s) 0 e, h .answer, h .chosen .count, h .chosen .radius), h .right)
+    pub looked-found : refusal (Lookup x y) s ≡ 0 → (r ≡ lookedUp s x y) × Rounded s (location x y) r
+    looked-found e = (was-found ∙ sym (looked-up e), was-rounded)
 
-    pub records-found : laid (map recordOf (neighbours s (location x y))) noRecords ≡ tenRecords s x y
-    unfolding tenRecords
-    records-found = rw (neighbours-refusal, eq-eqb (refusal (Lookup x y) s) 0 e)
+  module _ (lent : ℕ) where
+    -- refused: nothing is written
+    pub selects-none : (n : ℕ) (l : RecordList) → n ≡ refusal (LookupNeighbours x y lent) s → (n ≡ 0 → ⊥) → l .count ≡ 0 → Selects s x y lent (record { answer = Refused n; list = l })
+    unfolding lookedUpLent Rounded neighboursInto
+    selects-none n l e h none = record {
+      answer = rw (← e, ne-eqb n 0 h);
+      rounded = tt;
+      few = omega arith;
+      fits = omega arith;
+      list = λ list k. rw (none, k, ← e, ne-eqb n 0 h);
+    }
+
+    -- accepted: the chosen points' records are written
+    pub selects-found : (a : Answered) (r : Answer) (l : RecordList) → refusal (LookupNeighbours x y lent) s ≡ 0
+        → r ≡ Found (a .answer) (a .chosen .count) (a .chosen .radius) → AnswersAs s (location x y) a → Lists s (location x y) l
+        → Selects s x y lent (record { answer = r; list = l })
+    unfolding lookedUpLent neighboursInto
+    selects-found a r l e g h listed = record {
+      answer = was-found a r g h ∙ rw (eq-eqb (refusal (LookupNeighbours x y lent) s) 0 e);
+      rounded = was-rounded a r g h;
+      few = listed .size;
+      fits = omega (arith, listed .size, neighbours-accepted x y lent s e .1);
+      list = λ list k. rw (listed .items, k, eq-eqb (refusal (LookupNeighbours x y lent) s) 0 e);
+    }

@@ -2,18 +2,22 @@
 mod edits;
 
 ghost use mathlib.Core.Path.{_≡_};
-ghost use Prim.Native.Nat.{_≤_};
-ghost use lib.ListN.{length};
+ghost use mathlib.Core.List.{_++_};
+ghost use Prim.Native.Nat.{_≤_, min};
+ghost use lib.ListN.{length, take, drop};
 ghost use Rattle.model.specs.Point.{location};
 ghost use Rattle.model.specs.SurveyFile.{writtenInto};
 ghost use Rattle.model.specs.Calls.{Add, Change, Drop, Clear, Load, Lookup, refusal, fresh as freshState};
+ghost use Rattle.model.specs.Answer.{neighboursInto};
 ghost use Rattle.mean.specs.Answers.{AnswersAs};
+ghost use Rattle.records.specs.Records.{recordOf};
 ghost use Rattle.survey_file.specs.Written.{writtenAs};
 ghost use Rattle.survey.specs.Held.{stateOf, Plain};
 ghost use Rattle.survey.specs.Replies.{Replies};
-ghost use Rattle.survey.specs.Answers.{lookedUp, Rounded, tenRecords};
+ghost use Rattle.survey.specs.Answers.{lookedUp, lookedUpLent, Rounded, Selects};
 use mean::Answered;
 use records::Record;
+use records::RecordList;
 use survey_file::Written;
 
 pub struct Survey {
@@ -35,10 +39,16 @@ pub enum Answer {
     Refused(u8),
 }
 
-// What a lookup with neighbours gives: of the records as many are meant as the answer counts.
-pub struct AnswerWithNeighbours {
+// A lookup's answer, and the records to write to the list that it was lent: none where it is refused.
+struct Selection {
+    answer: Answer,
+    list: RecordList,
+}
+
+// What a lookup lent records of an array gives: the answer, and the array after the call.
+pub struct AnswerWithRecords {
     pub answer: Answer,
-    pub neighbours: [Record; 10],
+    pub records: [Record; 32],
 }
 
 // A survey of no points.
@@ -187,24 +197,63 @@ pub fn lookup(s: Survey, x: u32, y: u32) -> Answer
     found(a)
 }
 
-// The same answer, and the chosen points in order of choice: refusals 1, 6.
-pub fn lookup_neighbours(s: Survey, x: u32, y: u32) -> AnswerWithNeighbours
-    ensures { λ r. ⌜ r .answer ≡ lookedUp (stateOf s) x y ⌝ }
-    ensures { λ r. ⌜ Rounded (stateOf s) (location x y) (r .answer) ⌝ }
-    ensures { λ r. ⌜ r .neighbours ≡ tenRecords (stateOf s) x y ⌝ }
+// All that a lookup with neighbours decides: where `lent` records are lent, its answer, and which records go to them.
+fn select(s: Survey, x: u32, y: u32, lent: usize) -> Selection
+    ensures { λ r. ⌜ Selects (stateOf s) x y lent r ⌝ }
 {
-    let no = refusals::of_lookup(s.count, x, y);
+    let no = refusals::of_lookup_neighbours(s.count, x, y, lent);
     if no != 0 {
-        let none = records::none();
-        return AnswerWithNeighbours {
+        return Selection {
             answer: Answer::Refused(no),
-            neighbours: none,
+            list: records::none(),
         };
     }
     let a = answered(s, x, y);
-    let list = records::records_of(a.chosen);
-    AnswerWithNeighbours {
+    Selection {
         answer: found(a),
-        neighbours: list,
+        list: records::records_of(a.chosen),
+    }
+}
+
+// The same answer, and the chosen points' records, in order of choice, to the front of the lent list: refusals 1, 6, 8.
+pub fn lookup_neighbours<'a>(s: Survey, x: u32, y: u32, list: &'a mut [Record]) -> Answer
+    ensures { λ r. ⌜ (r ≡ lookedUpLent (stateOf s) x y (length (now (list .entry))))
+        × Rounded (stateOf s) (location x y) r
+        × (now (list .exit) ≡ neighboursInto recordOf (stateOf s) x y (now (list .entry))) ⌝ }
+{
+    let lent = list.len();
+    let selection = select(s, x, y, lent);
+    let found = selection.list;
+    records::fill(list, found);
+    selection.answer
+}
+
+fn at_most_32(n: usize) -> usize
+    ensures { λ r. ⌜ r ≡ min n 32 ⌝ }
+{
+    if n < 32 {
+        return n;
+    }
+    32
+}
+
+// The same for a caller that holds its records in an array, of which it lends the first n.
+pub fn lookup_lending(
+    s: Survey,
+    x: u32,
+    y: u32,
+    records: [Record; 32],
+    n: usize,
+) -> AnswerWithRecords
+    ensures { λ r. ⌜ (r .answer ≡ lookedUpLent (stateOf s) x y (length (take n records)))
+        × Rounded (stateOf s) (location x y) (r .answer)
+        × (r .records ≡ neighboursInto recordOf (stateOf s) x y (take n records) ++ drop n records) ⌝ }
+{
+    let mut list = records;
+    let m = at_most_32(n);
+    let answer = lookup_neighbours(s, x, y, &mut list[..m]);
+    AnswerWithRecords {
+        answer: answer,
+        records: list,
     }
 }

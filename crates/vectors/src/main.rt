@@ -5,6 +5,7 @@ mod examples;
 mod file_refusals;
 mod files;
 mod grids;
+mod lent;
 mod say;
 mod shown;
 mod writing;
@@ -18,5 +19,6 @@ fn main() {
     writing::run();
     examples::run();
     choice::run();
+    lent::run();
     grids::run();
 }

@@ -101,9 +101,9 @@ fn count_of(a: Answer) -> usize {
 }
 
 // The first n of the records, a line each.
-fn neighbours(list: [Record; 10], n: usize) {
+fn neighbours(list: [Record; 32], n: usize) {
     let mut i = 0usize;
-    while i < 10 {
+    while i < 32 {
         if i < n {
             say::neighbour(list[i]);
         }
@@ -111,14 +111,39 @@ fn neighbours(list: [Record; 10], n: usize) {
     }
 }
 
+// Records that no call has written to.
+fn untouched() -> [Record; 32] {
+    [Record {
+        x: 99,
+        y: 99,
+        z: 99,
+        distance: 99,
+        kind: 99,
+    }; 32]
+}
+
+// Lent ten records; the chosen points' are shown.
 pub fn lookup_neighbours(s: Survey, x: u32, y: u32) {
     text::word(b"lookup with neighbours");
     say::location(x, y);
-    let r = survey::lookup_neighbours(s, x, y);
+    let r = survey::lookup_lending(s, x, y, untouched(), 10);
     let a = r.answer;
     say::answer(a);
-    let list = r.neighbours;
+    let list = r.records;
     neighbours(list, count_of(a));
+}
+
+// Lent n records, which are all shown.
+pub fn lookup_lent(s: Survey, x: u32, y: u32, n: usize) {
+    text::word(b"lookup lent");
+    say::number(n as u64);
+    text::word(b" records");
+    say::location(x, y);
+    let r = survey::lookup_lending(s, x, y, untouched(), n);
+    let a = r.answer;
+    say::answer(a);
+    let list = r.records;
+    neighbours(list, n);
 }
 
 // An add with no line, for the points that a lookup is made in.

@@ -4,7 +4,7 @@ use native.Mathlib.Omega.{arith}
 use lib.ListN.{length}
 use lib.Seq.{length-take-le}
 use borrow.Author.Needs.{needs}
-use Rattle.model.specs.Grid.{gridRefusal, cells}
+use Rattle.model.specs.Grid.{gridRefusal}
 use Rattle.laws.proofs.GridLaws.{grid-fits}
 use Rattle.survey.specs.Held.{stateOf}
 use Rattle.grid_rules.specs.Held.{gridOf}

@@ -86,13 +86,16 @@ returns-6 c =
     sym (after-lookup (a .x) (a .y) (stateOf (a .s)))
     ∙ ap (λ (o : ℕ). after (callOf o (a .x) (a .y) (a .z) (a .file .now)) (stateOf (a .s))) (sym (t .if6 .taken))
 
-lookup-neighbours-requires : tie.Need-lookup-neighbours-requires
-lookup-neighbours-requires c κs = tt
+blank-requires : tie.Need-blank-requires
+blank-requires c κs = tt
+
+lookup-lending-requires : tie.Need-lookup-lending-requires
+lookup-lending-requires c κs = tt
 
 returns-7 : tie.Need-returns-7
 unfolding callOf
 returns-7 c =
-    let t = c .before in
+    let t = c .before .before in
     let a = t .before .before .before .before .before .before .before .args in
     rw (
       ne-eqb (a .op) 0 (t .before .before .before .before .before .if1 .left),
@@ -102,7 +105,7 @@ returns-7 c =
       ne-eqb (a .op) 4 (t .before .if5 .left),
       ne-eqb (a .op) 5 (t .if6 .left),
     )
-    (sym (after-lookup-neighbours (a .x) (a .y) 10 (stateOf (a .s))))
+    (sym (after-lookup-neighbours (a .x) (a .y) (a .z) (stateOf (a .s))))
 
 pub run-call-spec : {M : Type 1} → statement M
 run-call-spec =
@@ -122,5 +125,6 @@ run-call-spec =
     returns-5
     lookup-requires
     returns-6
-    lookup-neighbours-requires
+    blank-requires
+    lookup-lending-requires
     returns-7)

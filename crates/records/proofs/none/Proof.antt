@@ -1,12 +1,13 @@
--- `none` meets its contract: both lists compute to the same.
+-- `none` meets its contract.
 use mathlib.Core.Path.{refl}
-use Rattle.records.specs.Records.{noRecords}
 use Rattle.records.proofs.none.Statement.{statement}
 use Rattle.records.proofs.none.Tie as tie
 
+blank-requires : tie.Need-blank-requires
+blank-requires c κs = tt
+
 returns : tie.Need-returns
-unfolding noRecords
 returns c = refl
 
 pub none-spec : {M : Type 1} → statement M
-none-spec = tie.close (tie.spec returns)
+none-spec = tie.close (tie.spec blank-requires returns)

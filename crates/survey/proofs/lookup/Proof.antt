@@ -28,8 +28,8 @@ unfolding stateOf
 returns-2 c =
     let b = c .before .before in
     let a = b .before .before .args in
-    looked-found (stateOf (a .s)) (a .x) (a .y) (sym (b .before .of-lookup .ensures (a .s .x) (a .s .y) (a .s .z)) ∙ b .if1 .left) _ _
-    (c .found .ensures) (c .before .answered .ensures)
+    looked-found (stateOf (a .s)) (a .x) (a .y) _ _
+    (c .found .ensures) (c .before .answered .ensures) (sym (b .before .of-lookup .ensures (a .s .x) (a .s .y) (a .s .z)) ∙ b .if1 .left)
 
 pub lookup-spec : {M : Type 1} → statement M
 lookup-spec = tie.close (tie.spec of-lookup-requires returns answered-requires found-requires returns-2)

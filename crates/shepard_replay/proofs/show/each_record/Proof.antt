@@ -5,16 +5,19 @@ use Rattle.shepard_replay.proofs.show.each_record.Statement.{statement}
 use Rattle.shepard_replay.proofs.show.each_record.Tie as tie
 
 abbrev Inv-loop : tie.InvT-loop
-Inv-loop list filled m line₀ n₀ i₀ line n i = Unit {0}
+Inv-loop m list line₀ n₀ i₀ line n i = Unit {0}
 
 abbrev μ-loop : tie.MeasureT-loop
-μ-loop list filled m line₀ n₀ i₀ line n i = m - i
+μ-loop m list line₀ n₀ i₀ line n i = m - i
 
 loop-holds : tie.Need-loop-holds Inv-loop μ-loop
 loop-holds c = tt
 
-record-at-requires : tie.Need-record-at-requires Inv-loop μ-loop
-record-at-requires c κs = tt
+mul-r : tie.Need-mul-r Inv-loop μ-loop
+mul-r c = omega arith
+
+array-copy-out-r : tie.Need-array-copy-out-r Inv-loop μ-loop
+array-copy-out-r c = omega arith
 
 record-requires : tie.Need-record-requires Inv-loop μ-loop
 record-requires c κs = tt
@@ -41,7 +44,8 @@ each-record-spec =
     Inv-loop
     μ-loop
     loop-holds
-    record-at-requires
+    mul-r
+    array-copy-out-r
     record-requires
     add-i
     loop-less

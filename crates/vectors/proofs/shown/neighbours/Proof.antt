@@ -1,14 +1,14 @@
--- `neighbours` is safe and ends: the loop goes over the ten records.
+-- `neighbours` is safe and ends: the loop goes over the 32 records.
 use Prim.Native.Nat.{_≤_, _-_}
 use borrow.Author.Needs.{needs}
 use Rattle.vectors.proofs.shown.neighbours.Statement.{statement}
 use Rattle.vectors.proofs.shown.neighbours.Tie as tie
 
 abbrev Inv-loop : tie.InvT-loop
-Inv-loop n list i₀ i = i ≤ 10
+Inv-loop n list i₀ i = i ≤ 32
 
 abbrev μ-loop : tie.MeasureT-loop
-μ-loop n list i₀ i = 10 - i
+μ-loop n list i₀ i = 32 - i
 
 loop-holds : tie.Need-loop-holds Inv-loop μ-loop
 loop-holds c = search needs
