@@ -15,11 +15,14 @@ use Rattle.model.specs.Calls.{Call, Add, Change, Drop, Clear, Load, Lookup, Loo
 use Rattle.laws.proofs.ListLaws.{all-append}
 use Rattle.laws.proofs.ValueLaws.{mag-below}
 use Rattle.laws.proofs.Numbers.{long-back, bytes4-bytes, signed-back, complement-below}
+use Rattle.records.specs.declared.Record.{Record}
 use Rattle.survey.specs.declared.Answer.{Answer}
-use Rattle.history.specs.Claim.{Claim}
+use Rattle.survey.specs.declared.AnswerWithRecords.{AnswerWithRecords}
+use Rattle.history.specs.Claim.{Claim, ClaimLent}
 use Rattle.history.specs.Encoding.{callOf, fileLength, firstCalls, calls}
 use Rattle.history.specs.Encoded.{callRecord, callBytes, callFile, encoded, files, SignedWord, Callable}
 use Rattle.history.proofs.run_calls.Reads as run-calls-of
+use Rattle.history.proofs.run_calls_lending.Reads as run-calls-lending-of
 
 -- the last 32 bits
 abbrev low : ℕ → ℕ
@@ -100,7 +103,12 @@ unfolding files flatMap
 files-bytes [] h = tt
 files-bytes (c ∷ cs) h = all-append Byte (callFile c) (files cs) (written c (h .0) .file) (files-bytes cs (h .1))
 
--- Demand 3 of `run_calls`, over every list of calls: where the bytes of a list are lent, the answer is right about what that list leaves
-pub demand-3-encoded : (cs : List Call) → All Callable cs → (κs : Lfts 1) (records fs : RefT (List ℕ)) → records .now ≡ encoded cs → fs .now ≡ files cs
-    → (x y : ℕ) (a : Answer) → run-calls-of.Post κs (records, (fs, (x, (y, tt)))) a (records, (fs, (x, (y, tt)))) → Claim x y (present cs) a
-demand-3-encoded cs h κs records fs er ef x y a p = rw (er, ef, every cs h) at (p .1)
+-- Demand 3 of `run_calls` and of `run_calls_lending`, over every list of calls: where the bytes of a list are lent, the answer is right about what that list leaves
+module _ (cs : List Call) (h : All Callable cs) (κs : Lfts 1) (records fs : RefT (List ℕ)) (er : records .now ≡ encoded cs) (ef : fs .now ≡ files cs) (x y : ℕ) where
+  pub demand-3-encoded : (a : Answer) → run-calls-of.Post κs (records, (fs, (x, (y, tt)))) a (records, (fs, (x, (y, tt)))) → Claim x y (present cs) a
+  demand-3-encoded a p = rw (er, ef, every cs h) at (p .1)
+
+  pub demand-3-encoded-neighbours : (l : List Record) (n : ℕ) (r : AnswerWithRecords)
+      → run-calls-lending-of.Post κs (records, (fs, (x, (y, (l, (n, tt)))))) r (records, (fs, (x, (y, (l, (n, tt))))))
+      → ClaimLent x y (length (take n l)) (present cs) (r .answer) l (r .records)
+  demand-3-encoded-neighbours l n r p = rw (er, ef, every cs h) at (p .1 .1)

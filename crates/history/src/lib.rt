@@ -1,13 +1,18 @@
 // A list of calls, handed over as bytes, made one after the other on one survey, and a lookup after it.
 ghost use mathlib.Core.Path.{_≡_};
+ghost use mathlib.Core.List.{_++_};
 ghost use Prim.Native.Nat.{_+_, _≤_, min};
+ghost use lib.ListN.{length, take, drop};
 ghost use Rattle.model.specs.Calls.{after, present};
+ghost use Rattle.model.specs.Answer.{neighboursInto};
+ghost use Rattle.records.specs.Records.{recordOf};
 ghost use Rattle.survey.specs.Held.{stateOf};
-ghost use Rattle.survey.specs.Answers.{lookedUp};
-ghost use Rattle.history.specs.Claim.{Claim};
+ghost use Rattle.survey.specs.Answers.{lookedUp, lookedUpLent};
+ghost use Rattle.history.specs.Claim.{Claim, ClaimLent};
 ghost use Rattle.history.specs.Encoding.{callOf, fileLength, calls};
 use records::Record;
 use survey::Answer;
+use survey::AnswerWithRecords;
 use survey::Survey;
 
 // The length of the file that belongs to a record.
@@ -74,10 +79,9 @@ fn run_call(s: Survey, op: u8, x: u32, y: u32, z: u32, file: &[u8]) -> Survey
     s
 }
 
-// The calls of the records, the files of the loads among them one after the other in `files`, from a fresh survey; then a lookup.
-pub fn run_calls<'a>(records: &'a [u8], files: &'a [u8], x: u32, y: u32) -> Answer
-    ensures { λ r. ⌜ r ≡ lookedUp (present (calls (now (records .entry)) (now (files .entry)))) x y ⌝ }
-    ensures { λ r. ⌜ Claim x y (present (calls (now (records .entry)) (now (files .entry)))) r ⌝ }
+// The survey that the calls of the records leave, made one after the other from a fresh one. The files of the loads among them stand one after the other in `files`.
+fn left_by<'a>(records: &'a [u8], files: &'a [u8]) -> Survey
+    ensures { λ r. ⌜ stateOf r ≡ present (calls (now (records .entry)) (now (files .entry))) ⌝ }
 {
     let n = records.len() / 13;
     let mut t = survey::fresh();
@@ -94,5 +98,31 @@ pub fn run_calls<'a>(records: &'a [u8], files: &'a [u8], x: u32, y: u32) -> Answ
         start = end;
         i += 1;
     }
+    t
+}
+
+// A lookup after the calls.
+pub fn run_calls<'a>(records: &'a [u8], files: &'a [u8], x: u32, y: u32) -> Answer
+    ensures { λ r. ⌜ r ≡ lookedUp (present (calls (now (records .entry)) (now (files .entry)))) x y ⌝ }
+    ensures { λ r. ⌜ Claim x y (present (calls (now (records .entry)) (now (files .entry)))) r ⌝ }
+{
+    let t = left_by(records, files);
     survey::lookup(t, x, y)
+}
+
+// A lookup after them that is lent the first n neighbour records of a list.
+pub fn run_calls_lending<'a>(
+    records: &'a [u8],
+    files: &'a [u8],
+    x: u32,
+    y: u32,
+    list: [Record; 32],
+    n: usize,
+) -> AnswerWithRecords
+    ensures { λ r. ⌜ r .answer ≡ lookedUpLent (present (calls (now (records .entry)) (now (files .entry)))) x y (length (take n list)) ⌝ }
+    ensures { λ r. ⌜ r .records ≡ neighboursInto recordOf (present (calls (now (records .entry)) (now (files .entry)))) x y (take n list) ++ drop n list ⌝ }
+    ensures { λ r. ⌜ ClaimLent x y (length (take n list)) (present (calls (now (records .entry)) (now (files .entry)))) (r .answer) list (r .records) ⌝ }
+{
+    let t = left_by(records, files);
+    survey::lookup_lending(t, x, y, list, n)
 }

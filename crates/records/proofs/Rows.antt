@@ -1,8 +1,8 @@
--- A local `[Record; n]`, and the row of its n records. For another struct, change the names N and N′.
---     array-is, is-array       the relation of a struct's field that is such an array, as the array's own, and back.        whole-is-field      the array's machine value is one in both
---     row-in           a local that holds the array whole is the row of its records: it is then read, written and lent by the element
---     row-out          and back: the local holds some machine value of the array, with what the array owns
--- Assumes `Given`.
+-- A local `[Record; n]` as one machine value and as the row of its n records, for the proofs that follow code step by step.
+--     array-is, is-array     the relation of a struct's field that is such an array, as the array's own, and back
+--     whole-is-field         the array's machine value is one in both
+--     row-in                 a local that holds the array whole is the row of its records: it is then read, written and lent by the element
+--     row-out                and back: the local holds some machine value of the array, with what the array owns
 use mathlib.Core.Path.{_≡_, refl, _∙_, sym, ap}
 use Prim.Native.Nat.{ℕ}
 use mathlib.Core.List.{List, [], _∷_, map}
