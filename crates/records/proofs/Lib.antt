@@ -1,2 +1,3 @@
--- The laws that the walked proofs here and in the crates above cite.
+-- The laws that the proofs by hand here and in the survey share.
+pub mod Over
 pub mod Rows

@@ -6,13 +6,11 @@
 use mathlib.Core.Path.{_≡_, refl, sym, ap, subst}
 use Prim.Native.Nat.{ℕ, suc, _+_, _-_, _*_, _<_, _≤_, _^_}
 use native.Mathlib.Omega.{arith}
-use native.Mathlib.Nat.{zero-add}
 use native.Mathlib.Numerals.{add-one}
 use mathlib.Core.Bool.{Bool, true, false, not}
-use mathlib.Core.List.{List, [], _∷_, _++_}
+use mathlib.Core.List.{List, [], _∷_}
 use mathlib.Core.WellFounded.{WellFounded, InvImage·wf}
-use lib.ListN.{length, getD, set, take, drop as drop-list}
-use lib.Seq.{paste-suc, length-paste, length-take-le}
+use lib.ListN.{length, getD, take}
 use lib.IntN.{pos}
 use lib.WfN.{Nat·lt-wfRel}
 use lib.Dec.{T, ltb, ltb→lt, nltb→le, lit<}
@@ -57,6 +55,7 @@ use Rattle.records.proofs.Record as N
 use Rattle.records.proofs.Record.Laws as N′
 use Rattle.records.proofs.RecordList as D
 use Rattle.records.proofs.RecordList.Laws as D′
+use Rattle.records.proofs.Over.{over, length-over, set-over, laid-over}
 use Rattle.records.proofs.Rows.{R, vals, arr, whole-val, field-val, array-is, row-in, row-out}
 use Rattle.records.proofs.fill.Key.{name as #records·fill}
 use Rattle.records.proofs.fill as fill
@@ -94,19 +93,6 @@ slice = sp (sliceTy (tyRef (named 0) mut (pointee (N.the-row .written))))
 
 abbrev stayed : Stays (fill.ended .signature .params) (fill.ended .kept)
 stayed = (stay-slice (0 ∷ []) tt (plain (λ _. R)), (stay-none (λ _. D.the-row) yes, tt))
-
--- the first n of xs in place of the first n of ys
-abbrev over : ℕ → List Record → List Record → List Record
-over n xs ys = take n xs ++ drop-list n ys
-
-length-over : (n : ℕ) (xs ys : List Record) → n ≤ length xs → n ≤ length ys → length (over n xs ys) ≡ length ys
-length-over n xs ys p q = simp zero-add at (length-paste ys 0 xs n (omega arith) p)
-
-set-over : (i : ℕ) (xs ys : List Record) (d : Record) → i < length xs → i < length ys → set (over i xs ys) i (getD xs i d) ≡ over (suc i) xs ys
-set-over i xs ys d p q = simp zero-add at (paste-suc ys 0 xs i d (omega arith) p)
-
-laid-over : (n : ℕ) (xs ys : List Record) → n ≤ length xs → over n xs ys ≡ laid (take n xs) ys
-laid-over n xs ys p = ap (λ (k : ℕ). take n xs ++ drop-list k ys) (sym (length-take-le n xs p))
 
 byte-fits : {i n : ℕ} → i < n → n ≤ 10 → i * 16 < 2 ^ 64
 byte-fits l g = omega arith
