@@ -1,4 +1,4 @@
-// Why a call on the points that arrays hold is refused: document 01, "The bench". The first number that applies, or 0.
+// Why a call on the points that arrays hold is refused: document 01, "The bench", and 8 of a lookup lent too few neighbour records. The first number that applies, or 0.
 ghost use mathlib.Core.Path.{_≡_};
 ghost use mathlib.Core.List.{List};
 ghost use Prim.Native.Nat.{ℕ};
