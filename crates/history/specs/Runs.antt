@@ -37,3 +37,5 @@ pub data Runs : List Call → Survey → Type 0 where
       → lookup-of.Post tt (s, (x, (y, tt))) a (s, (x, (y, tt))) → Runs (cs ++ Lookup x y ∷ []) s
   lookup-neighbours : {cs : List Call} {s : Survey} → Runs cs s → (x y : ℕ) (l : List Record) (n : ℕ) (r : AnswerWithRecords)
       → lookup-lending-of.Post tt (s, (x, (y, (l, (n, tt))))) r (s, (x, (y, (l, (n, tt))))) → Runs (cs ++ LookupNeighbours x y (length (take n l)) ∷ []) s
+  -- lent n records as a slice, by a function that is proved by hand: of its postcondition nothing is asked, since the survey goes by value and its caller's stays
+  lookup-neighbours-slice : {cs : List Call} {s : Survey} → Runs cs s → (x y n : ℕ) → Runs (cs ++ LookupNeighbours x y n ∷ []) s
