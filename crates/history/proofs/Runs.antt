@@ -15,7 +15,7 @@ use Rattle.survey.specs.Held.{stateOf, Plain}
 use Rattle.survey.proofs.lookup.Reads as lookup-of
 use Rattle.survey.proofs.lookup_lending.Reads as lookup-lending-of
 use Rattle.history.specs.Claim.{Claim, ClaimLent}
-use Rattle.history.specs.Runs.{Runs, fresh, add, change, drop, clear, load, lookup, lookup-neighbours, lookup-neighbours-slice}
+use Rattle.history.specs.Runs.{Runs, fresh, add, change, drop, clear, load, lookup, lookup-lending, lookup-neighbours}
 use Rattle.history.proofs.ClaimLaws.{claim-of, claim-lent-of}
 
 -- one call more
@@ -32,9 +32,9 @@ leaves (drop {cs = cs} {s = s} h x y r p) = more cs (Drop x y) s (r .survey) (le
 leaves (clear {cs = cs} {s = s} h r p) = more cs Clear s (r .survey) (leaves h) (p .state)
 leaves (load {cs = cs} {s = s} h κs file r p) = more cs (Load (file .now)) s (r .survey) (leaves h) (p .state)
 leaves (lookup {cs = cs} {s = s} h x y a p) = more cs (Lookup x y) s s (leaves h) (sym (after-lookup x y (stateOf s)))
-leaves (lookup-neighbours {cs = cs} {s = s} h x y l n r p) =
+leaves (lookup-lending {cs = cs} {s = s} h x y l n r p) =
     more cs (LookupNeighbours x y (length (take n l))) s s (leaves h) (sym (after-lookup-neighbours x y (length (take n l)) (stateOf s)))
-leaves (lookup-neighbours-slice {cs = cs} {s = s} h x y n) = more cs (LookupNeighbours x y n) s s (leaves h) (sym (after-lookup-neighbours x y n (stateOf s)))
+leaves (lookup-neighbours {cs = cs} {s = s} h x y n) = more cs (LookupNeighbours x y n) s s (leaves h) (sym (after-lookup-neighbours x y n (stateOf s)))
 
 -- nothing in it is read otherwise than it stands
 pub stays-plain : {cs : List Call} {s : Survey} → Runs cs s → Plain s
@@ -45,8 +45,8 @@ stays-plain (drop h x y r p) = p .plain (stays-plain h)
 stays-plain (clear h r p) = p .plain (stays-plain h)
 stays-plain (load h κs file r p) = p .plain (stays-plain h)
 stays-plain (lookup h x y a p) = stays-plain h
-stays-plain (lookup-neighbours h x y l n r p) = stays-plain h
-stays-plain (lookup-neighbours-slice h x y n) = stays-plain h
+stays-plain (lookup-lending h x y l n r p) = stays-plain h
+stays-plain (lookup-neighbours h x y n) = stays-plain h
 
 -- at most 256 points, ascending, in the domain and in range
 pub survey-invariant : {cs : List Call} {s : Survey} → Runs cs s → Invariant (stateOf s)

@@ -35,7 +35,7 @@ pub data Runs : List Call → Survey → Type 0 where
       → load-of.Post κs (s, (file, tt)) r (s, (file, tt)) → Runs (cs ++ Load (now file) ∷ []) (r .survey)
   lookup : {cs : List Call} {s : Survey} → Runs cs s → (x y : ℕ) (a : Answer)
       → lookup-of.Post tt (s, (x, (y, tt))) a (s, (x, (y, tt))) → Runs (cs ++ Lookup x y ∷ []) s
-  lookup-neighbours : {cs : List Call} {s : Survey} → Runs cs s → (x y : ℕ) (l : List Record) (n : ℕ) (r : AnswerWithRecords)
+  lookup-lending : {cs : List Call} {s : Survey} → Runs cs s → (x y : ℕ) (l : List Record) (n : ℕ) (r : AnswerWithRecords)
       → lookup-lending-of.Post tt (s, (x, (y, (l, (n, tt))))) r (s, (x, (y, (l, (n, tt))))) → Runs (cs ++ LookupNeighbours x y (length (take n l)) ∷ []) s
-  -- lent n records as a slice, by a function that is proved by hand: of its postcondition nothing is asked, since the survey goes by value and its caller's stays
-  lookup-neighbours-slice : {cs : List Call} {s : Survey} → Runs cs s → (x y n : ℕ) → Runs (cs ++ LookupNeighbours x y n ∷ []) s
+  -- the checker gives out no postcondition of it, and none is asked: the survey goes by value, and its caller's stays
+  lookup-neighbours : {cs : List Call} {s : Survey} → Runs cs s → (x y n : ℕ) → Runs (cs ++ LookupNeighbours x y n ∷ []) s

@@ -36,17 +36,6 @@ fn advance(at: usize, n: usize, end: usize) -> usize
     end
 }
 
-// Records to lend.
-fn blank() -> [Record; 32] {
-    [Record {
-        x: 0,
-        y: 0,
-        z: 0,
-        distance: 0,
-        kind: 0,
-    }; 32]
-}
-
 // One call: the survey that it leaves.
 fn run_call(s: Survey, op: u8, x: u32, y: u32, z: u32, file: &[u8]) -> Survey
     ensures { λ r. ⌜ stateOf r ≡ after (callOf op x y z (now (file .entry))) (stateOf s) ⌝ }
@@ -75,7 +64,8 @@ fn run_call(s: Survey, op: u8, x: u32, y: u32, z: u32, file: &[u8]) -> Survey
         let _ = survey::lookup(s, x, y);
         return s;
     }
-    let _ = survey::lookup_lending(s, x, y, blank(), z as usize);
+    let list = [records::blank(); 32];
+    let _ = survey::lookup_lending(s, x, y, list, z as usize);
     s
 }
 

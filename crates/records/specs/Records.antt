@@ -3,6 +3,7 @@ use mathlib.Core.Path.{_≡_}
 use Prim.Native.Nat.{ℕ, _≤_}
 use mathlib.Core.Bool.{Bool}
 use mathlib.Core.List.{map}
+use lib.IntN.{pos}
 use lib.ListN.{take}
 use Rattle.model.specs.Point.{Location, State}
 use Rattle.model.specs.Influence.{influenceAt, kind}
@@ -19,7 +20,10 @@ unfoldable pub itemRecord : Bool → ℕ → Neighbour → Record
 unfolding influenceAt
 itemRecord few r a = record { x = a .x; y = a .y; z = a .z; distance = a .distance; kind = kind (influenceAt few r (a .distance)) }
 
+abbrev pub noRecord : Record
+noRecord = record { x = 0; y = 0; z = pos 0; distance = 0; kind = 0 }
+
 -- the records of the chosen points of s at p, in order of choice
-pub record Lists (s : State) (p : Location) (r : RecordList) : Type 0 where
+pub record Listed (s : State) (p : Location) (r : RecordList) : Type 0 where
   pub size : r .count ≤ 10
   pub items : take (r .count) (r .items) ≡ map recordOf (model.neighbours s p)

@@ -5,7 +5,7 @@ ghost use lib.ListN.{length, take};
 ghost use Rattle.model.specs.Lists.{laid};
 ghost use Rattle.model.specs.Point.{Location, State};
 ghost use Rattle.neighbours.specs.Chose.{Chose};
-ghost use Rattle.records.specs.Records.{itemRecord, Lists};
+ghost use Rattle.records.specs.Records.{itemRecord, noRecord, Listed};
 use neighbours::Chosen;
 use neighbours::Neighbour;
 
@@ -24,15 +24,17 @@ pub struct RecordList {
     pub count: usize,
 }
 
-// Ten records of zeros.
-fn blank() -> [Record; 10] {
-    [Record {
+// A record of zeros, for a list to lend.
+pub fn blank() -> Record
+    ensures { λ r. ⌜ r ≡ noRecord ⌝ }
+{
+    Record {
         x: 0,
         y: 0,
         z: 0,
         distance: 0,
         kind: 0,
-    }; 10]
+    }
 }
 
 // The record of a chosen point; few: four points or fewer are present.
@@ -53,7 +55,7 @@ pub fn none() -> RecordList
     ensures { λ r. ⌜ r .count ≡ 0 ⌝ }
 {
     RecordList {
-        items: blank(),
+        items: [blank(); 10],
         count: 0,
     }
 }
@@ -61,13 +63,13 @@ pub fn none() -> RecordList
 // The records of the chosen points in order of choice.
 pub fn records_of(c: Chosen) -> RecordList
     requires { ⌜ c .count ≤ 10 ⌝ }
-    ensures { λ r. ⌜ ((s : State) (p : Location) → Chose s p c → Lists s p r) ⌝ }
+    ensures { λ r. ⌜ ((s : State) (p : Location) → Chose s p c → Listed s p r) ⌝ }
 {
     let items = c.items;
     let n = c.count;
     let few = c.few;
     let radius = c.radius;
-    let mut r = blank();
+    let mut r = [blank(); 10];
     let mut i = 0usize;
     while i < n {
         let a = items[i];

@@ -10,7 +10,7 @@ use Rattle.model.specs.Calls.{Lookup, LookupNeighbours, refusal}
 use Rattle.laws.proofs.RecordLaws.{domain-bounds}
 use Rattle.laws.proofs.CallLaws.{lookup-accepted, neighbours-accepted}
 use Rattle.records.specs.declared.RecordList.{RecordList}
-use Rattle.records.specs.Records.{Lists}
+use Rattle.records.specs.Records.{Listed}
 use Rattle.mean.specs.declared.Answered.{Answered}
 use Rattle.mean.specs.Answers.{AnswersAs}
 use Rattle.survey.specs.declared.Answer.{Answer}
@@ -58,7 +58,7 @@ module _ (s : State) (x y : ℕ) where
 
     -- accepted: the chosen points' records are written
     pub selects-found : (a : Answered) (r : Answer) (l : RecordList) → refusal (LookupNeighbours x y lent) s ≡ 0
-        → r ≡ Found (a .answer) (a .chosen .count) (a .chosen .radius) → AnswersAs s (location x y) a → Lists s (location x y) l
+        → r ≡ Found (a .answer) (a .chosen .count) (a .chosen .radius) → AnswersAs s (location x y) a → Listed s (location x y) l
         → Selects s x y lent (record { answer = r; list = l })
     unfolding lookedUpLent neighboursInto
     selects-found a r l e g h listed = record {
