@@ -1,2 +1,4 @@
 -- Facts that the proofs of this crate share.
-pub mod Passed
+pub mod Exchange
+pub mod KeyLaws
+pub mod FirstLaws

@@ -1,14 +1,17 @@
-// The nearest eleven points in order, found in one pass: ten that may be chosen, and the first one left out.
+// The first points in order, of those within a limit, up to eleven: ten that may be chosen, and the first one left out.
 ghost use mathlib.Core.Path.{_≡_};
-ghost use mathlib.Core.List.{_++_, _∷_};
-ghost use Prim.Native.Nat.{_+_, _<_, _≤_, min};
-ghost use lib.ListN.{take, drop};
-ghost use Rattle.model.specs.Point.{State, location, point};
-ghost use Rattle.model.specs.Order.{insert};
+ghost use mathlib.Core.List.{map};
+ghost use Prim.Native.Nat.{ℕ, _<_, _≤_, min, max};
+ghost use lib.Dec.{ltb};
+ghost use lib.ListN.{length, take};
+ghost use mathlib.Core.Bool.{true};
 ghost use Rattle.model.specs.Lists.{All};
-ghost use Rattle.model.specs.Invariant.{Sound};
-ghost use Rattle.columns.specs.Columns.{wrapped, pointsIn, surveyIn};
-ghost use Rattle.candidates.specs.Nearest.{precedesBy, candidateAt, listOf, Place, HoldsNearest};
+ghost use Rattle.model.specs.Order.{insert};
+ghost use Rattle.model.specs.Point.{Location, inRange};
+ghost use Rattle.columns.specs.Columns.{surveyIn};
+ghost use Rattle.squares.specs.Squares.{HoldsSquares, Words};
+ghost use Rattle.candidates.specs.Keys.{keyOf, keyAt, candidateOf, Ascending, firstKeys};
+ghost use Rattle.candidates.specs.First.{listOf, HoldsFirst, InRange};
 
 // A point with its squared distance d², before it is known whether it is chosen.
 pub struct Candidate {
@@ -18,106 +21,100 @@ pub struct Candidate {
     pub squared: u32,
 }
 
-// The nearest of the points passed, the first `count` of `items`, in order.
+// The first `count` of `items`, in order.
 pub struct Candidates {
     pub items: [Candidate; 11],
     pub count: usize,
 }
 
-// Whether a comes before b: by d², then x, then y.
-fn comes_before(a: Candidate, b: Candidate) -> bool
-    ensures { λ r. ⌜ r ≡ precedesBy a b ⌝ }
+// A point's place in the order as one number, so that one comparison tells which of two comes first.
+fn key_of(squared: u32, x: u16, y: u16, i: u8) -> u64
+    requires { ⌜ (x < 4096) × (y < 4096) ⌝ }
+    ensures { λ r. ⌜ r ≡ keyOf squared x y i ⌝ }
 {
-    if a.squared < b.squared {
-        return true;
-    }
-    if a.squared != b.squared {
-        return false;
-    }
-    if a.x < b.x {
-        return true;
-    }
-    if a.x != b.x {
-        return false;
-    }
-    a.y < b.y
+    ((squared as u64 * 4096 + x as u64) * 4096 + y as u64) * 256 + i as u64
 }
 
-// Where a candidate goes: in front of the first that it comes before.
-fn place(b: Candidates, e: Candidate) -> usize
-    requires { ⌜ b .count ≤ 11 ⌝ }
-    ensures { λ r. ⌜ Place (b .items) (b .count) e r ⌝ }
+// The key of the point at place i.
+fn key_at<'a>(xs: &'a [u16; 256], ys: &'a [u16; 256], squares: &'a [u32], i: u8) -> u64
+    requires { ⌜ i < length (now squares) ⌝ }
+    ensures { λ r. ⌜ r ≡ keyAt (now (xs .entry)) (now (ys .entry)) (now (squares .entry)) i ⌝ }
 {
-    let n = b.count;
-    let items = b.items;
-    let mut i: usize = 0;
-    while i < n {
-        let c = items[i];
-        if comes_before(e, c) {
-            return i;
-        }
-        i += 1;
-    }
-    i
+    let k = i as usize;
+    key_of(
+        squares[k],
+        columns::coordinate(xs[k]),
+        columns::coordinate(ys[k]),
+        i,
+    )
 }
 
-// A candidate put in at place p, those from p on one further, the last one lost.
-fn put_at(items: [Candidate; 11], p: usize, e: Candidate) -> [Candidate; 11]
-    requires { ⌜ p ≤ 11 ⌝ }
-    ensures { λ r. ⌜ r ≡ take 11 (take p items ++ e ∷ drop p items) ⌝ }
+fn lesser(a: u64, b: u64) -> u64
+    ensures { λ r. ⌜ r ≡ min a b ⌝ }
 {
-    let mut a = items;
-    let mut c = e;
-    let mut k = p;
+    if a < b { a } else { b }
+}
+
+fn greater(a: u64, b: u64) -> u64
+    ensures { λ r. ⌜ r ≡ max a b ⌝ }
+{
+    if a < b { b } else { a }
+}
+
+// The first eleven of the keys held and one more: it goes along and is exchanged for each greater one, so that no branch turns on a key.
+fn put(keys: [u64; 11], key: u64) -> [u64; 11]
+    requires { ⌜ Ascending keys ⌝ }
+    ensures { λ r. ⌜ r ≡ take 11 (insert ltb key keys) ⌝ }
+{
+    let mut a = keys;
+    let mut c = key;
+    let mut k: usize = 0;
     while k < 11 {
         let t = a[k];
-        a[k] = c;
-        c = t;
+        a[k] = lesser(t, c);
+        c = greater(t, c);
         k += 1;
     }
     a
 }
 
-// The first eleven of those held and one more.
-fn put(b: Candidates, e: Candidate) -> Candidates
-    requires { ⌜ b .count ≤ 11 ⌝ }
-    ensures { λ r. ⌜ (r .count ≡ min 11 (b .count + 1)) × (listOf r ≡ take 11 (insert precedesBy e (listOf b))) ⌝ }
+// The first eleven keys of the points at these places, in order.
+fn first_keys<'a>(
+    xs: &'a [u16; 256],
+    ys: &'a [u16; 256],
+    squares: &'a [u32],
+    at: &'a [u8],
+) -> [u64; 11]
+    requires { ⌜ All (λ i. i < length (now squares)) (now at) ⌝ }
+    ensures { λ r. ⌜ r ≡ firstKeys (now (xs .entry)) (now (ys .entry)) (now (squares .entry)) (now (at .entry)) ⌝ }
 {
-    let p = place(b, e);
-    let n = b.count;
-    let items = b.items;
-    let next = put_at(items, p, e);
-    if n < 11 {
-        return Candidates {
-            items: next,
-            count: n + 1,
-        };
+    let mut keys = [18446744073709551615u64; 11];
+    let mut j: usize = 0;
+    while j < at.len() {
+        let next = put(keys, key_at(xs, ys, squares, at[j]));
+        keys = next;
+        j += 1;
     }
-    Candidates {
-        items: next,
-        count: 11,
-    }
+    keys
 }
 
-// A point of the arrays as it is read, seen from (px, py).
-fn candidate_at(px: u16, py: u16, x: u16, y: u16, z: i8) -> Candidate
-    requires { ⌜ (px < 4096) × (py < 4096) ⌝ }
-    ensures { λ r. ⌜ ((s : State) → r ≡ candidateAt s (location px py) (wrapped (point x y z))) ⌝ }
+// What a key says, with the value at its place.
+fn candidate_of(zs: &[i8; 256], key: u64) -> Candidate
+    ensures { λ r. ⌜ (r ≡ candidateOf (now (zs .entry)) key) × (inRange (r .z) ≡ true) ⌝ }
 {
-    let a = columns::coordinate(x);
-    let b = columns::coordinate(y);
-    let dx = numbers::gap(px as u64, a as u64);
-    let dy = numbers::gap(py as u64, b as u64);
+    let i = (key % 256) as usize;
     Candidate {
-        x: a,
-        y: b,
-        z: z,
-        squared: (dx * dx + dy * dy) as u32,
+        x: (key / 1048576 % 4096) as u16,
+        y: (key / 256 % 4096) as u16,
+        z: zs[i],
+        squared: (key / 4294967296) as u32,
     }
 }
 
-fn none() -> Candidates
-    ensures { λ r. ⌜ r .count ≡ 0 ⌝ }
+// The candidates of the first n keys.
+fn of_keys(zs: &[i8; 256], keys: [u64; 11], n: usize) -> [Candidate; 11]
+    requires { ⌜ n ≤ 11 ⌝ }
+    ensures { λ r. ⌜ (take n r ≡ map (candidateOf (now (zs .entry))) (take n keys)) × InRange (take n r) ⌝ }
 {
     let e = Candidate {
         x: 0,
@@ -125,32 +122,40 @@ fn none() -> Candidates
         z: 0,
         squared: 0,
     };
-    Candidates {
-        items: [e; 11],
-        count: 0,
+    let mut items = [e; 11];
+    let mut j: usize = 0;
+    while j < n {
+        items[j] = candidate_of(zs, keys[j]);
+        j += 1;
     }
+    items
 }
 
-// The nearest eleven of the points, or all where they are fewer. Each point as it is read is in the domain and in range, which eight bits cannot leave.
-pub fn nearest<'a>(
+fn at_most_11(n: usize) -> usize
+    ensures { λ r. ⌜ r ≡ min 11 n ⌝ }
+{
+    if n < 11 { n } else { 11 }
+}
+
+// The first in order of the points whose squared distances are within the limit.
+pub fn first<'a>(
     xs: &'a [u16; 256],
     ys: &'a [u16; 256],
     zs: &'a [i8; 256],
-    n: usize,
-    px: u16,
-    py: u16,
+    squares: &'a [u32],
+    limit: u32,
 ) -> Candidates
-    requires { ⌜ (px < 4096) × (py < 4096) ⌝ }
-    ensures { λ r. ⌜ HoldsNearest (surveyIn (now (xs .entry)) (now (ys .entry)) (now (zs .entry)) n) (location px py) r ⌝ }
-    ensures { λ _. ⌜ All Sound (pointsIn (now (xs .entry)) (now (ys .entry)) (now (zs .entry)) n) ⌝ }
+    requires { ⌜ (length (now squares) ≤ 256) × Words (now squares) ⌝ }
+    ensures { λ r. ⌜ ((n : ℕ) (p : Location) → HoldsSquares (surveyIn (now (xs .entry)) (now (ys .entry)) (now (zs .entry)) n) p (now (squares .entry))
+        → HoldsFirst (surveyIn (now (xs .entry)) (now (ys .entry)) (now (zs .entry)) n) p limit r) ⌝ }
+    ensures { λ r. ⌜ InRange (listOf r) ⌝ }
 {
-    let m = columns::clamped(n);
-    let mut b = none();
-    let mut i: usize = 0;
-    while i < m {
-        let e = candidate_at(px, py, xs[i], ys[i], zs[i]);
-        b = put(b, e);
-        i += 1;
+    let mut at = [0u8; 256];
+    let found = squares::places_within(squares, limit, &mut at);
+    let keys = first_keys(xs, ys, squares, &at[..found]);
+    let n = at_most_11(found);
+    Candidates {
+        items: of_keys(zs, keys, n),
+        count: n,
     }
-    b
 }

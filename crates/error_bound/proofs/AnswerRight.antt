@@ -1,4 +1,4 @@
--- Demand 3 of a single lookup: in a survey in range, its points in any order, every answer is near the exact mean and between the least and the greatest chosen value.
+-- Demand 3 of a single lookup: among points in the domain, in any order, the chosen ones with values in range, every answer is near the exact mean and between the least and the greatest chosen value.
 use mathlib.Core.Path.{_≡_, refl, sym}
 use Prim.Native.Nat.{ℕ, _+_, _*_, _≤_, _<_}
 use native.Mathlib.Nat.{le-trans, le-of-eq, one-mul, mul-le-mul-right}
@@ -8,7 +8,6 @@ use mathlib.Core.Bool.{Bool, true, false, cond}
 use lib.IntN.{ℤ, pos, negsuc, natAbs, _+ℤ_, _-ℤ_, _*ℤ_}
 use lib.ListN.{length, getD}
 use lib.Signed.{_≤ℤ_}
-use Rattle.model.specs.Lists.{All}
 use Rattle.model.specs.Point.{Location, State, point, inRange}
 use Rattle.model.specs.Choice.{coincident, choice}
 use Rattle.model.specs.Fraction.{whole}
@@ -16,16 +15,15 @@ use Rattle.model.specs.Weight.{Neighbourhood, neighbourhoodOf, neighbourhood, w
 use Rattle.model.specs.Mean.{weightedMean, firstChosen, mean, Near, leastChosen, greatestChosen, Right}
 use Rattle.model.specs.Computed.{meanF}
 use Rattle.model.specs.Answer.{nearestHalf, answer}
-use Rattle.model.specs.Invariant.{Sound}
-use Rattle.laws.proofs.ListLaws.{all-imp, all-below}
+use Rattle.laws.proofs.ListLaws.{all-below}
 use Rattle.laws.proofs.DiffLaws.{up, down, diff-of, diff-pos, diff-minus, diff-times, diff-le, abs-diff, parts-of-le}
 use Rattle.laws.proofs.ValueLaws.{≤ℤ-trans, least-all, greatest-all, least-keeps, greatest-keeps, range-ends, abs-apart, scaled, scaled-le, raised}
-use Rattle.laws.proofs.ChosenLaws.{chosen-all, chosen-some}
+use Rattle.laws.proofs.ChosenLaws.{chosen-some}
 use Rattle.error_bound.proofs.Means.{meanOf}
 use Rattle.error_bound.proofs.MeanError.{mean-most}
 use Rattle.error_bound.proofs.LessenedMean.{lessened, lessened-near, lessened-proper}
 use Rattle.error_bound.proofs.AnswerNear.{answer-near}
-use Rattle.error_bound.proofs.InRange.{neighbourhood-fair, neighbourhood-spread}
+use Rattle.error_bound.proofs.InRange.{LookupInRange, neighbourhood-fair, neighbourhood-spread}
 
 raised-least : (z : ℤ) (k : ℕ) → (pos 256 *ℤ z) ≤ℤ ((pos 256 *ℤ z) +ℤ pos k)
 raised-least z k = rw (raised z k, scaled z) (diff-le (256 * up z) (256 * down z) (256 * up z + k) (256 * down z) (omega arith))
@@ -58,7 +56,7 @@ closer : (a b c : ℤ) → a ≤ℤ b → b ≤ℤ c → natAbs (b -ℤ a) ≤ n
 closer a b c h k =
     omega (arith, abs-apart b a, abs-apart c a, parts-of-le a b h, parts-of-le b c k)
 
-module _ (s : State) (p : Location) (domain : (p .x < 4096) × (p .y < 4096)) (some : 0 < length (s .points)) (sound : All Sound (s .points)) where
+module _ (s : State) (p : Location) (A : LookupInRange s p) where
   abbrev least : ℤ
   least = leastChosen s p
 
@@ -76,11 +74,11 @@ module _ (s : State) (p : Location) (domain : (p .x < 4096) × (p .y < 4096)) (s
 
   first-least : least ≤ℤ firstChosen s p .z
   unfolding firstChosen
-  first-least = chosen-least 0 (chosen-some s p some)
+  first-least = chosen-least 0 (chosen-some s p (A .some))
 
   first-greatest : firstChosen s p .z ≤ℤ greatest
   unfolding firstChosen
-  first-greatest = chosen-greatest 0 (chosen-some s p some)
+  first-greatest = chosen-greatest 0 (chosen-some s p (A .some))
 
   ordered : least ≤ℤ greatest
   ordered = ≤ℤ-trans least (firstChosen s p .z) greatest first-least first-greatest
@@ -104,8 +102,8 @@ module _ (s : State) (p : Location) (domain : (p .x < 4096) × (p .y < 4096)) (s
     above-most : k ≤ 256 * M
     unfolding whole
     above-most =
-        let F = neighbourhood-fair s p domain some sound apart in
-        let S = neighbourhood-spread s p domain some sound in
+        let F = neighbourhood-fair s p A apart in
+        let S = neighbourhood-spread s p A in
         let a = lessened-near h least F S in
         let m = meanOf (h .count) (weight h) (lessened h least) in
         let u : m .top ≤ m .bot * M = mean-most (h .count) (weight h) (lessened h least) M (λ i l. le-trans (numbers-most i l) (le-of-eq (sym (one-mul M)))) in
@@ -129,7 +127,7 @@ module _ (s : State) (p : Location) (domain : (p .x < 4096) × (p .y < 4096)) (s
 
       near : (t : Bool) → coincident s p ≡ t → Near (cond t at-first away) (cond t (record { top = firstChosen s p .z; bot = 1 }) (weightedMean (neighbourhood s p)))
       near true e = itself (firstChosen s p .z)
-      near false e = answer-near (neighbourhood s p) least (neighbourhood-fair s p domain some sound e) (neighbourhood-spread s p domain some sound)
+      near false e = answer-near (neighbourhood s p) least (neighbourhood-fair s p A e) (neighbourhood-spread s p A)
 
       from : (t : Bool) → coincident s p ≡ t → (pos 256 *ℤ least) ≤ℤ cond t at-first away
       from true e = scaled-le least (firstChosen s p .z) first-least
@@ -143,9 +141,8 @@ module _ (s : State) (p : Location) (domain : (p .x < 4096) × (p .y < 4096)) (s
   pub answer-ends : (negsuc 32767 ≤ℤ answer s p) × (answer s p ≤ℤ pos 32512)
   unfolding leastChosen greatestChosen
   answer-ends =
-      let values = chosen-all s p (λ a. inRange (a .z) ≡ true) (all-imp Sound (λ a. inRange (a .z) ≡ true) (λ a h. h .value) (s .points) sound) in
-      let l = range-ends least (least-keeps (λ z. inRange z ≡ true) (choice s p .points) refl values) in
-      let g = range-ends greatest (greatest-keeps (λ z. inRange z ≡ true) (choice s p .points) refl values) in (
+      let l = range-ends least (least-keeps (λ z. inRange z ≡ true) (choice s p .points) refl (A .values)) in
+      let g = range-ends greatest (greatest-keeps (λ z. inRange z ≡ true) (choice s p .points) refl (A .values)) in (
         ≤ℤ-trans (negsuc 32767) (pos 256 *ℤ least) (answer s p) (scaled-le (negsuc 127) least (l .0)) (answer-right .least),
         ≤ℤ-trans (answer s p) (pos 256 *ℤ greatest) (pos 32512) (answer-right .greatest) (scaled-le greatest (pos 127) (g .1)),
       )

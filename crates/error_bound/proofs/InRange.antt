@@ -1,4 +1,4 @@
--- Every lookup in a survey in range, its points in any order, weighs a neighbourhood that the error bounds hold of.
+-- Every lookup among points in the domain, in any order, the chosen ones with values in range, weighs a neighbourhood that the error bounds hold of.
 use mathlib.Core.Path.{_≡_, refl}
 use Prim.Native.Nat.{ℕ, _*_, _≤_, _<_}
 use native.Mathlib.Nat.{mul-pos, mul-le-mul}
@@ -16,9 +16,7 @@ use Rattle.model.specs.Influence.{influenceAt, inverse, tapered, edge}
 use Rattle.model.specs.Influence as influence
 use Rattle.model.specs.Weight.{neighbourhoodOf, neighbourhood}
 use Rattle.model.specs.Mean.{leastChosen}
-use Rattle.model.specs.Invariant.{Sound}
-use Rattle.laws.proofs.ListLaws.{all-imp, all-below}
-use Rattle.laws.proofs.RecordLaws.{domain-bounds}
+use Rattle.laws.proofs.ListLaws.{all-below}
 use Rattle.laws.proofs.ValueLaws.{least-all, least-keeps, above, spread}
 use Rattle.laws.proofs.ChosenLaws.{Inside, chosen-all, chosen-some, chosen-most, chosen-apart, point-most, chosen-radius}
 use Rattle.laws.proofs.InnerLaws.{excess-most}
@@ -36,18 +34,22 @@ proper few r d D d' r' = go (eqb d 0) few (leb (3 * d) r) (ltb d r) refl
     go false false false true e = (ltb-true d r e, r')
     go false false false false e = tt
 
-module _ (s : State) (p : Location) (domain : (p .x < 4096) × (p .y < 4096)) (some : 0 < length (s .points)) (sound : All Sound (s .points)) where
-  inside : All Inside (s .points)
-  inside = all-imp Sound Inside (λ a h. domain-bounds (a .x) (a .y) (h .location)) (s .points) sound
+-- what a lookup goes by: a location in the domain, and one point or more, in the domain, whose values are in range where they are chosen
+pub record LookupInRange (s : State) (p : Location) : Type 0 where
+  pub domain : (p .x < 4096) × (p .y < 4096)
+  pub some : 0 < length (s .points)
+  pub inside : All Inside (s .points)
+  pub values : All (λ a. inRange (a .z) ≡ true) (choice s p .points)
 
+module _ (s : State) (p : Location) (A : LookupInRange s p) where
   abbrev chosen : ℕ → Point
   chosen i = getD (choice s p .points) i (point 0 0 (pos 0))
 
   chosen-inside : (i : ℕ) → i < length (choice s p .points) → Inside (chosen i)
-  chosen-inside i l = all-below Inside (choice s p .points) i (point 0 0 (pos 0)) (chosen-all s p Inside inside) l
+  chosen-inside i l = all-below Inside (choice s p .points) i (point 0 0 (pos 0)) (chosen-all s p Inside (A .inside)) l
 
   chosen-far : (i : ℕ) → i < length (choice s p .points) → distance s p (chosen i) ≤ 16777216
-  chosen-far i l = point-most s p domain (chosen i) (chosen-inside i l)
+  chosen-far i l = point-most s p (A .domain) (chosen i) (chosen-inside i l)
 
   module _ (apart : coincident s p ≡ false) where
     chosen-off : (i : ℕ) → i < length (choice s p .points) → 0 < distance s p (chosen i)
@@ -56,10 +58,10 @@ module _ (s : State) (p : Location) (domain : (p .x < 4096) × (p .y < 4096)) (s
     pub neighbourhood-fair : Fair (neighbourhood s p)
     unfolding neighbourhood neighbourhoodOf
     neighbourhood-fair = record {
-      some = chosen-some s p some;
+      some = chosen-some s p (A .some);
       most = chosen-most s p;
-      influences = λ i l. proper (few s) (choice s p .radius) (distance s p (chosen i)) (chosen-off i l) (chosen-far i l) (chosen-radius s p domain some inside);
-      excesses = λ i j k l. excess-most s p (chosen i) (chosen j) domain (chosen-inside i k) (chosen-inside j l) (chosen-far i k) (chosen-far j l);
+      influences = λ i l. proper (few s) (choice s p .radius) (distance s p (chosen i)) (chosen-off i l) (chosen-far i l) (chosen-radius s p (A .domain) (A .some) (A .inside));
+      excesses = λ i j k l. excess-most s p (chosen i) (chosen j) (A .domain) (chosen-inside i k) (chosen-inside j l) (chosen-far i k) (chosen-far j l);
       products = λ i j k l. (mul-pos (chosen-off i k) (chosen-off j l), mul-le-mul (chosen-far i k) (chosen-far j l));
     }
 
@@ -68,9 +70,6 @@ module _ (s : State) (p : Location) (domain : (p .x < 4096) × (p .y < 4096)) (s
   neighbourhood-spread = record {
     lifted = λ i l. above (leastChosen s p) (chosen i .z) (all-below (λ a. leastChosen s p ≤ℤ a .z) (choice s p .points) i (point 0 0 (pos 0)) (least-all (choice s p .points)) l);
     small = λ i l. spread (leastChosen s p) (chosen i .z)
-        (least-keeps (λ z. inRange z ≡ true) (choice s p .points) refl values)
-        (all-below (λ a. inRange (a .z) ≡ true) (choice s p .points) i (point 0 0 (pos 0)) values l);
+        (least-keeps (λ z. inRange z ≡ true) (choice s p .points) refl (A .values))
+        (all-below (λ a. inRange (a .z) ≡ true) (choice s p .points) i (point 0 0 (pos 0)) (A .values) l);
   }
-    where
-      values : All (λ a. inRange (a .z) ≡ true) (choice s p .points)
-      values = chosen-all s p (λ a. inRange (a .z) ≡ true) (all-imp Sound (λ a. inRange (a .z) ≡ true) (λ a h. h .value) (s .points) sound)

@@ -11,6 +11,7 @@ pub mod RootLaws
 pub mod PrecedesLaws
 pub mod OrderLaws
 pub mod SortLaws
+pub mod PartLaws
 pub mod ChoiceLaws
 pub mod NearestLaws
 pub mod ChosenLaws

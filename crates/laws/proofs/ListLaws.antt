@@ -5,7 +5,7 @@ use native.Mathlib.Numerals.{add-one}
 use native.Mathlib.Omega.{arith}
 use mathlib.Core.List.{List, [], _∷_, _++_, map, flatMap, append-assoc}
 use lib.ListN.{length, take, drop, getD, length-append}
-use Rattle.model.specs.Lists.{tabulate, All, Bytes}
+use Rattle.model.specs.Lists.{tabulate, All, Pairs, Bytes}
 
 module _ {A : Type 0} where
   pub all-imp : (P Q : A → Type 0) → ((a : A) → P a → Q a) → (l : List A) → All P l → All Q l
@@ -47,6 +47,29 @@ module _ {A : Type 0} where
   pub all-map : {B : Type 0} (P : B → Type 0) (f : A → B) (l : List A) → All (λ a. P (f a)) l → All P (map f l)
   all-map P f [] h = tt
   all-map P f (a ∷ l) h = (h .0, all-map P f l (h .1))
+
+  pub all-of-map : {B : Type 0} (P : B → Type 0) (f : A → B) (l : List A) → All P (map f l) → All (λ a. P (f a)) l
+  all-of-map P f [] h = tt
+  all-of-map P f (a ∷ l) h = (h .0, all-of-map P f l (h .1))
+
+  -- one element more at the end
+  pub pairs-last : (R : A → A → Type 0) (l : List A) (a : A) → Pairs R l → All (λ b. R b a) l → Pairs R (l ++ (a ∷ []))
+  pairs-last R [] a h g = (tt, tt)
+  pairs-last R (b ∷ l) a h g = (all-append (R b) l (a ∷ []) (h .0) (g .0, tt), pairs-last R l a (h .1) (g .1))
+
+  pub pairs-map : {B : Type 0} (R : B → B → Type 0) (f : A → B) (l : List A) → Pairs (λ a b. R (f a) (f b)) l → Pairs R (map f l)
+  pairs-map R f [] h = tt
+  pairs-map R f (a ∷ l) h = (all-map (R (f a)) f l (h .0), pairs-map R f l (h .1))
+
+  -- a fact of every two elements and one of each give another of every two
+  pub pairs-both : (R S : A → A → Type 0) (P : A → Type 0) → ((a b : A) → R a b → P a → P b → S a b) → (l : List A) → Pairs R l → All P l → Pairs S l
+  pairs-both R S P f [] h g = tt
+  pairs-both R S P f (a ∷ l) h g = (all-both (R a) P (S a) (λ b r p. f a b r (g .0) p) l (h .0) (g .1), pairs-both R S P f l (h .1) (g .1))
+
+  -- two functions with the same values make the same list
+  pub map-same : {B : Type 0} (f g : A → B) (l : List A) → All (λ a. f a ≡ g a) l → map f l ≡ map g l
+  map-same f g [] h = refl
+  map-same f g (a ∷ l) h = rw (h .0, map-same f g l (h .1))
 
   pub all-tabulate : (P : A → Type 0) (f : ℕ → A) (n : ℕ) → ((i : ℕ) → i < n → P (f i)) → All P (tabulate f n)
   unfolding tabulate

@@ -43,6 +43,12 @@ module _ {A B : Type 0} (f : A → B) where
   map-tabulate g zero = refl
   map-tabulate g (suc n) = rw (map-append, map-tabulate g n)
 
+-- two tests that agree on the elements of a list
+pub count-same : {A : Type 0} (f g : A → Bool) (l : List A) (d : A) → ((i : ℕ) → i < length l → f (getD l i d) ≡ g (getD l i d)) → count f l ≡ count g l
+unfolding count
+count-same f g [] d h = refl
+count-same f g (a ∷ l) d h = rw (h 0 (omega arith), count-same f g l d (λ i k. h (suc i) (omega arith)))
+
 -- one element more at the end
 pub count-last : {A : Type 0} (t : A → Bool) (l : List A) (a : A) → count t (l ++ (a ∷ [])) ≡ cond (t a) (count t l + 1) (count t l)
 unfolding count

@@ -1,8 +1,10 @@
--- Lexical order: what it says in numbers, and that it is strict, transitive and total; of points by x, then y.
-use mathlib.Core.Path.{_≡_, refl, sym, _∙_}
+-- Lexical order: what it says in numbers, as an order of single numbers, and that it is strict, transitive and total; of points by x, then y.
+use mathlib.Core.Path.{_≡_, refl, sym, ap, _∙_}
 use mathlib.Core.Logic.{_⊎_, inl, inr}
-use Prim.Native.Nat.{ℕ, _<_}
+use Prim.Native.Nat.{ℕ, _+_, _*_, _≤_, _<_}
+use native.Mathlib.Nat.{mul-le-mul-right}
 use native.Mathlib.Omega.{arith}
+use native.Mathlib.Decide.{decLe}
 use mathlib.Core.Bool.{Bool, true, false, _&&_, _||_, true≢false, false≢true, and-eq-true-iff}
 use lib.Dec.{ltb, eqb}
 use borrow.Author.Tests.{ltb-true, ltb-false, lt-ltb, le-ltb, eqb-true, eqb-false, eq-eqb, ne-eqb}
@@ -25,6 +27,24 @@ more-lexical m n t h = rw (le-ltb m n (omega arith), ne-eqb m n (λ e. omega ari
 -- of equal numbers the rest decides
 pub tie-lexical : (m n : ℕ) (t : Bool) → m ≡ n → lexical m n t ≡ t
 tie-lexical m n t e = rw (le-ltb m n (omega arith), eq-eqb m n e)
+
+-- as an order of numbers, where what decides last is below b
+pub lexical-number : (b m n i j : ℕ) → i < b → j < b → lexical m n (ltb i j) ≡ ltb (m * b + i) (n * b + j)
+lexical-number b m n i j h k = elim (decLe n m) [
+  | no g ↦
+      let l : (m + 1) * b ≤ n * b = mul-le-mul-right b (omega arith) in
+      less-lexical m n (ltb i j) (omega arith) ∙ sym (lt-ltb (m * b + i) (n * b + j) (omega arith))
+  | yes g ↦ elim (decLe m n) [
+    | no l ↦
+        let p : (n + 1) * b ≤ m * b = mul-le-mul-right b (omega arith) in
+        more-lexical m n (ltb i j) (omega arith) ∙ sym (le-ltb (m * b + i) (n * b + j) (omega arith))
+    | yes l ↦ tie-lexical m n (ltb i j) (omega arith) ∙ go (ltb i j) refl (ap (λ (q : ℕ). q * b) {x = m} {y = n} (omega arith))
+  ]
+]
+  where
+    go : (t : Bool) → ltb i j ≡ t → m * b ≡ n * b → t ≡ ltb (m * b + i) (n * b + j)
+    go true e q = sym (lt-ltb (m * b + i) (n * b + j) (omega (arith, ltb-true i j e)))
+    go false e q = sym (le-ltb (m * b + i) (n * b + j) (omega (arith, ltb-false i j e)))
 
 pub equal-lexical : (m n : ℕ) (t : Bool) → m ≡ n → t ≡ true → lexical m n t ≡ true
 equal-lexical m n t e h = tie-lexical m n t e ∙ h

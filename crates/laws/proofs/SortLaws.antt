@@ -1,35 +1,22 @@
 -- How a list in order grows by one element, what a map that keeps the test does to it, and that its first k follow from the first k before.
 use mathlib.Core.Path.{_≡_, refl, ap, _∙_}
-use Prim.Native.Nat.{ℕ, zero, suc, _+_, _≤_, _<_}
-use native.Mathlib.Nat.{le-of-suc-le-suc, not-suc-le-zero}
+use Prim.Native.Nat.{ℕ, zero, suc, _+_}
 use native.Mathlib.Omega.{arith}
 use mathlib.Core.Bool.{Bool, true, false, cond}
 use mathlib.Core.List.{List, [], _∷_, _++_, map}
-use lib.ListN.{length, take, drop, getD}
+use lib.ListN.{length, take}
 use lib.Seq.{take-take}
+use Rattle.model.specs.Lists.{All, Pairs}
 use Rattle.model.specs.Order.{insert, sortOnto, sort}
+use Rattle.laws.proofs.ListLaws.{all-any, all-both}
+use Rattle.laws.proofs.OrderLaws.{all-insert}
 
 module _ {A : Type 0} (before : A → A → Bool) where
-  onto-last : (d l : List A) (a : A) → sortOnto before d (l ++ (a ∷ [])) ≡ insert before a (sortOnto before d l)
+  -- the last element is put into the others
+  pub onto-last : (d l : List A) (a : A) → sortOnto before d (l ++ (a ∷ [])) ≡ insert before a (sortOnto before d l)
   unfolding sortOnto
   onto-last d [] a = refl
   onto-last d (b ∷ l) a = onto-last (insert before b d) l a
-
-  -- the last element is put into the others, in order
-  pub sort-last : (l : List A) (a : A) → sort before (l ++ (a ∷ [])) ≡ insert before a (sort before l)
-  unfolding sort
-  sort-last l a = onto-last [] l a
-
-  -- an element goes to the first place whose element it comes before
-  pub insert-at : (i : ℕ) (l : List A) (a d : A) → i ≤ length l → ((k : ℕ) → k < i → before a (getD l k d) ≡ false)
-      → (i < length l → before a (getD l i d) ≡ true) → insert before a l ≡ take i l ++ a ∷ drop i l
-  unfolding insert
-  insert-at zero [] a d h below here = refl
-  insert-at zero (b ∷ l) a d h below here = ap (λ (t : Bool). cond t (a ∷ b ∷ l) (b ∷ insert before a l)) (here (omega arith))
-  insert-at (suc i) [] a d h below here = absurd (not-suc-le-zero h)
-  insert-at (suc i) (b ∷ l) a d h below here =
-      ap (λ (t : Bool). cond t (a ∷ b ∷ l) (b ∷ insert before a l)) (below 0 (omega arith))
-      ∙ ap {B = List A} (λ r. b ∷ r) (insert-at i l a d (le-of-suc-le-suc h) (λ k g. below (suc k) (omega arith)) (λ g. here (omega arith)))
 
   pub take-insert : (k : ℕ) (a : A) (l : List A) → take k (insert before a (take k l)) ≡ take k (insert before a l)
   unfolding insert
@@ -64,14 +51,29 @@ module _ {A : Type 0} (before : A → A → Bool) where
   unfolding sort
   length-sort l = omega (arith, length-onto [] l)
 
--- two tests that a map carries into each other
-module _ {A B : Type 0} (f : A → B) (s : A → A → Bool) (t : B → B → Bool) (keeps : (a b : A) → t (f a) (f b) ≡ s a b) where
-  pub map-insert : (a : A) (l : List A) → map f (insert s a l) ≡ insert t (f a) (map f l)
+-- two tests that a map carries into each other, on the elements that are compared
+module _ {A B : Type 0} (f : A → B) (s : A → A → Bool) (t : B → B → Bool) where
+  abbrev Keeps : A → A → Type 0
+  Keeps a b = t (f a) (f b) ≡ s a b
+
+  map-insert : (a : A) (l : List A) → All (Keeps a) l → map f (insert s a l) ≡ insert t (f a) (map f l)
   unfolding insert
-  map-insert a [] = refl
-  map-insert a (b ∷ l) = go (s a b) (t (f a) (f b)) (keeps a b) (map-insert a l)
+  map-insert a [] k = refl
+  map-insert a (b ∷ l) k = go (s a b) (t (f a) (f b)) (k .0) (map-insert a l (k .1))
     where
       go : (u v : Bool) → v ≡ u → map f (insert s a l) ≡ insert t (f a) (map f l)
           → map f (cond u (a ∷ b ∷ l) (b ∷ insert s a l)) ≡ cond v (f a ∷ f b ∷ map f l) (f b ∷ insert t (f a) (map f l))
       go true v e ih = rw e
       go false v e ih = rw e (ap {B = List B} (λ r. f b ∷ r) ih)
+
+  map-onto : (d l : List A) → All (λ a. All (Keeps a) d) l → Pairs (λ a b. Keeps b a) l → map f (sortOnto s d l) ≡ sortOnto t (map f d) (map f l)
+  unfolding sortOnto
+  map-onto d [] h k = refl
+  map-onto d (a ∷ l) h k =
+      map-onto (insert s a d) l (all-both (λ b. All (Keeps b) d) (λ b. Keeps b a) (λ b. All (Keeps b) (insert s a d)) (λ b p q. all-insert s (Keeps b) a d q p) l (h .1) (k .0)) (k .1)
+      ∙ ap (λ (m : List B). sortOnto t m (map f l)) (map-insert a d (h .0))
+
+  -- each element is compared with those before it alone
+  pub map-sort : (l : List A) → Pairs (λ a b. t (f b) (f a) ≡ s b a) l → map f (sort s l) ≡ sort t (map f l)
+  unfolding sort
+  map-sort l k = map-onto [] l (all-any _ (λ a. tt) l) k

@@ -9,7 +9,8 @@ use lib.Ieee.Positive.{num, den}
 use lib.IntN.{ℤ, pos, _+ℤ_, _*ℤ_, +ℤ-idr}
 use lib.Signed.{_≤ℤ_}
 use lib.ListN.{length}
-use Rattle.model.specs.Point.{Location, State, point, location}
+use Rattle.model.specs.Lists.{All}
+use Rattle.model.specs.Point.{Location, State, point, location, inDomain}
 use Rattle.model.specs.Distance.{distance}
 use Rattle.model.specs.Choice.{coincident, choice}
 use Rattle.model.specs.Weight.{neighbourhood}
@@ -19,8 +20,8 @@ use Rattle.model.specs.Answer.{nearestHalf, answer}
 use Rattle.relative_error.specs.Close.{plain}
 use Rattle.laws.proofs.ListLaws.{all-imp, all-below}
 use Rattle.laws.proofs.RecordLaws.{domain-bounds}
-use Rattle.laws.proofs.ChosenLaws.{chosen-some, chosen-all, point-most, first-at, first-apart}
-use Rattle.error_bound.proofs.InRange.{neighbourhood-fair, neighbourhood-spread}
+use Rattle.laws.proofs.ChosenLaws.{Inside, chosen-some, chosen-all, point-most, first-at, first-apart}
+use Rattle.error_bound.proofs.InRange.{LookupInRange, neighbourhood-fair, neighbourhood-spread}
 use Rattle.error_bound.proofs.AnswerRight.{answer-ends}
 use Rattle.error_bound.proofs.LessenedMean.{mean-reach}
 use Rattle.neighbours.specs.declared.Neighbour.{Neighbour}
@@ -33,6 +34,12 @@ use Rattle.mean.proofs.SeenLaws.{item-is, least-is, mean-seen}
 module _ (s : State) (px py : ℕ) (c : Chosen) (A : Asked s px py c) where
   abbrev p : Location
   p = location px py
+
+  inside : All Inside (s .points)
+  inside = all-imp (λ a. inDomain (a .x) (a .y) ≡ true) Inside (λ a h. domain-bounds (a .x) (a .y) h) (s .points) (A .inside)
+
+  pub in-range : LookupInRange s p
+  in-range = record { domain = A .domain; some = A .some; inside = inside; values = A .chose .values }
 
   abbrev first : Neighbour
   first = itemAt c 0
@@ -57,12 +64,12 @@ module _ (s : State) (px py : ℕ) (c : Chosen) (A : Asked s px py c) where
         rw (item-is s px py c (A .chose) i l)
         (all-below (λ a. distance s p a ≤ 16777216) (choice s p .points) i (point 0 0 (pos 0))
         (chosen-all s p (λ a. distance s p a ≤ 16777216)
-        (all-imp _ (λ a. distance s p a ≤ 16777216) (λ a h. point-most s p (A .domain) a (domain-bounds (a .x) (a .y) (h .location))) (s .points) (A .sound)))
+        (all-imp Inside (λ a. distance s p a ≤ 16777216) (λ a h. point-most s p (A .domain) a h) (s .points) inside))
         m);
   }
 
   answer-most : answer s p ≤ℤ pos 32512
-  answer-most = answer-ends s p (A .domain) (A .some) (A .sound) .1
+  answer-most = answer-ends s p in-range .1
 
   -- which of the two it is, by the distance of the first neighbour
   at-location : first .distance ≡ 0 → coincident s p ≡ true
@@ -97,7 +104,7 @@ module _ (s : State) (px py : ℕ) (c : Chosen) (A : Asked s px py c) where
     pub reach : T (plain y) × (num y < 4194304 * den y)
     reach =
         subst (λ (x : Float). T (plain x) × (num x < 4194304 * den x)) (sym mean-at)
-        (mean-reach (neighbourhood s p) (leastChosen s p) (neighbourhood-fair s p (A .domain) (A .some) (A .sound) (apart off)) (neighbourhood-spread s p (A .domain) (A .some) (A .sound)))
+        (mean-reach (neighbourhood s p) (leastChosen s p) (neighbourhood-fair s p in-range (apart off)) (neighbourhood-spread s p in-range))
 
     pub answer-apart : answer s p ≡ (pos 256 *ℤ least) +ℤ pos (nearestHalf y)
     unfolding answer

@@ -1,3 +1,4 @@
 -- Facts that the proofs of this crate share.
-pub mod FirstEleven
+pub mod Gathering
+pub mod FirstPoints
 pub mod Filling

@@ -1,9 +1,11 @@
--- That a struct holds the neighbours of a location: the choice of document 01, with d² and D beside each point. What the items past the count hold is free.
+-- That a struct holds the neighbours of a location: the choice of document 01, with d² and D beside each point, values in range. What the items past the count hold is free.
 use mathlib.Core.Path.{_≡_}
 use Prim.Native.Nat.{_≤_}
+use mathlib.Core.Bool.{true}
 use mathlib.Core.List.{map}
 use lib.ListN.{length, take}
-use Rattle.model.specs.Point.{Location, Point, State}
+use Rattle.model.specs.Lists.{All}
+use Rattle.model.specs.Point.{Location, Point, State, inRange}
 use Rattle.model.specs.Distance.{squared, distance}
 use Rattle.model.specs.Choice.{Choice, choice, few}
 use Rattle.neighbours.specs.declared.Neighbour.{Neighbour}
@@ -19,6 +21,7 @@ pub record Holds (s : State) (p : Location) (k : Choice) (c : Chosen) : Type 0 w
   pub size : c .count ≤ 10
   pub count : c .count ≡ length (k .points)
   pub items : take (c .count) (c .items) ≡ map (neighbourAt s p) (k .points)
+  pub values : All (λ (a : Point). inRange (a .z) ≡ true) (k .points)
   pub radius : c .radius ≡ k .radius
   pub few : c .few ≡ few s
 

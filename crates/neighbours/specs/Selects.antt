@@ -1,19 +1,32 @@
--- A choice by how many of the nearest points it takes, and what is worked out of a candidate on the way.
+-- The first points in order, as many as a choice goes by; a choice by how many of them it takes; and what is worked out of a candidate on the way.
 use mathlib.Core.Path.{_≡_}
 use Prim.Native.Nat.{ℕ, _≤_}
-use mathlib.Core.Bool.{Bool}
-use lib.Dec.{leb}
+use mathlib.Core.Bool.{true}
+use mathlib.Core.List.{map}
 use lib.ListN.{length, take}
-use Rattle.model.specs.Point.{Location, State}
+use Rattle.model.specs.Lists.{All}
+use Rattle.model.specs.Point.{Location, Point, State, inRange}
 use Rattle.model.specs.Distance.{distanceOf}
-use Rattle.model.specs.Choice.{Choice, ordered}
+use Rattle.model.specs.Choice.{Choice, ordered, within}
+use Rattle.squares.specs.Squares.{needed}
 use Rattle.candidates.specs.declared.Candidate.{Candidate}
+use Rattle.candidates.specs.declared.Candidates.{Candidates}
+use Rattle.candidates.specs.First.{candidateAt, listOf}
 use Rattle.neighbours.specs.declared.Neighbour.{Neighbour}
 use Rattle.neighbours.specs.declared.Selection.{Selection}
 
--- the choice k takes the first of the order, as many as t says
-pub record Selects (s : State) (p : Location) (k : Choice) (t : Selection) : Type 0 where
-  pub present : t .count ≤ length (s .points)
+-- b holds the first points of s in order, seen from p, as many as the choice goes by where k are within R0
+pub record HoldsEnough (s : State) (p : Location) (k : ℕ) (b : Candidates) : Type 0 where
+  pub within : k ≡ within s p
+  pub size : b .count ≤ 11
+  pub present : b .count ≤ length (s .points)
+  pub enough : needed k (length (s .points)) ≤ b .count
+  pub items : listOf b ≡ map (candidateAt s p) (take (b .count) (ordered s p))
+  pub values : All (λ (a : Point). inRange (a .z) ≡ true) (take (b .count) (ordered s p))
+
+-- the choice k takes the first of those that b holds, as many as t says
+pub record Selects (s : State) (p : Location) (k : Choice) (b : Candidates) (t : Selection) : Type 0 where
+  pub held : t .count ≤ b .count
   pub points : take (t .count) (ordered s p) ≡ k .points
   pub radius : t .radius ≡ k .radius
 
@@ -21,8 +34,3 @@ pub record Selects (s : State) (p : Location) (k : Choice) (t : Selection) : Typ
 unfoldable pub withDistance : Candidate → Neighbour
 unfolding distanceOf
 withDistance a = record { x = a .x; y = a .y; z = a .z; squared = a .squared; distance = distanceOf (a .squared) }
-
--- D ≤ r
-unfoldable pub withinOf : ℕ → Candidate → Bool
-unfolding distanceOf
-withinOf r a = leb (distanceOf (a .squared)) r

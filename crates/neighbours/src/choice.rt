@@ -1,14 +1,12 @@
-// Who is chosen of the nearest eleven, and the radius R: document 01, "Who is chosen".
+// Who is chosen of the first points in order, and the radius R: document 01, "Who is chosen".
 ghost use mathlib.Core.Path.{_≡_};
 ghost use mathlib.Core.List.{map};
-ghost use Prim.Native.Nat.{_≤_};
-ghost use lib.ListN.{take};
-ghost use Rattle.model.specs.Lists.{count as countOf};
+ghost use Prim.Native.Nat.{ℕ, _≤_};
+ghost use lib.ListN.{length, take};
 ghost use Rattle.model.specs.Point.{State, Location};
 ghost use Rattle.model.specs.Radius.{initialRadius};
 ghost use Rattle.model.specs.Choice.{Choice, coincident as coincidentAt, choiceApart};
-ghost use Rattle.candidates.specs.Nearest.{listOf, HoldsNearest};
-ghost use Rattle.neighbours.specs.Selects.{Selects, withDistance, withinOf};
+ghost use Rattle.neighbours.specs.Selects.{HoldsEnough, Selects, withDistance};
 ghost use Rattle.neighbours.specs.Chose.{Holds};
 use crate::Chosen;
 use crate::Neighbour;
@@ -18,7 +16,7 @@ use candidates::Candidates;
 
 // Whether a point is at the location: the nearest, if any is.
 pub(crate) fn coincident(b: Candidates) -> bool
-    ensures { λ r. ⌜ ((s : State) (p : Location) → HoldsNearest s p b → r ≡ coincidentAt s p) ⌝ }
+    ensures { λ r. ⌜ ((s : State) (p : Location) (k : ℕ) → HoldsEnough s p k b → r ≡ coincidentAt s p) ⌝ }
 {
     if b.count == 0 {
         return false;
@@ -28,41 +26,16 @@ pub(crate) fn coincident(b: Candidates) -> bool
     first.squared == 0
 }
 
-// How many have D ≤ R0. It is asked without a root: 65536 d² ≤ R0² + 2 R0.
-fn count_within(b: Candidates, r0: u32) -> usize
-    requires { ⌜ b .count ≤ 11 ⌝ }
-    ensures { λ r. ⌜ r ≡ countOf (withinOf r0) (listOf b) ⌝ }
-{
-    let n = b.count;
-    let items = b.items;
-    let r = r0 as u64;
-    let bound = r * r + 2 * r;
-    let mut k: usize = 0;
-    let mut i: usize = 0;
-    while i < n {
-        let e = items[i];
-        let d = 65536 * (e.squared as u64);
-        if d <= bound {
-            k += 1;
-        }
-        i += 1;
-    }
-    k
-}
-
-// Rules 3 to 5. R is D of the first point left out, or R0, or 0 where four points or fewer are present.
-fn by_count(b: Candidates, r0: u32) -> Selection
-    requires { ⌜ b .count ≤ 11 ⌝ }
+// Rules 3 to 5, of m points present and k within R0. R is D of the first point left out, or R0, or 0 where four points or fewer are present.
+fn by_count(b: Candidates, m: usize, k: u32, r0: u32) -> Selection
     ensures { λ r. ⌜ r .count ≤ 10 ⌝ }
-    ensures { λ r. ⌜ ((s : State) (p : Location) → HoldsNearest s p b → r0 ≡ initialRadius s → Selects s p (choiceApart s p) r) ⌝ }
+    ensures { λ r. ⌜ ((s : State) (p : Location) → HoldsEnough s p k b → m ≡ length (s .points) → r0 ≡ initialRadius s → Selects s p (choiceApart s p) b r) ⌝ }
 {
-    let n = b.count;
     let items = b.items;
-    let k = count_within(b, r0);
     if k <= 4 {
-        if n <= 4 {
+        if m <= 4 {
             return Selection {
-                count: n,
+                count: m,
                 radius: 0,
             };
         }
@@ -74,7 +47,7 @@ fn by_count(b: Candidates, r0: u32) -> Selection
     }
     if k <= 10 {
         return Selection {
-            count: k,
+            count: k as usize,
             radius: r0,
         };
     }
@@ -119,27 +92,25 @@ fn neighbours(items: [Candidate; 11], k: usize) -> [Neighbour; 10]
     a
 }
 
-// The chosen ones of the nearest.
-pub(crate) fn filled(b: Candidates, t: Selection) -> Chosen
+// The chosen ones of the nearest, of m points present.
+pub(crate) fn filled(b: Candidates, t: Selection, m: usize) -> Chosen
     requires { ⌜ t .count ≤ 10 ⌝ }
-    ensures { λ r. ⌜ ((s : State) (p : Location) (c : Choice) → HoldsNearest s p b → Selects s p c t → Holds s p c r) ⌝ }
+    ensures { λ r. ⌜ ((s : State) (p : Location) (k : ℕ) (c : Choice) → HoldsEnough s p k b → m ≡ length (s .points) → Selects s p c b t → Holds s p c r) ⌝ }
 {
-    let n = b.count;
     let items = b.items;
     let k = t.count;
     Chosen {
         items: neighbours(items, k),
         count: k,
         radius: t.radius,
-        few: n <= 4,
+        few: m <= 4,
     }
 }
 
 // Rules 2 to 5: the choice where no point is at the location.
-pub(crate) fn apart(b: Candidates, r0: u32) -> Chosen
-    requires { ⌜ b .count ≤ 11 ⌝ }
-    ensures { λ r. ⌜ ((s : State) (p : Location) → HoldsNearest s p b → r0 ≡ initialRadius s → Holds s p (choiceApart s p) r) ⌝ }
+pub(crate) fn apart(b: Candidates, m: usize, k: u32, r0: u32) -> Chosen
+    ensures { λ r. ⌜ ((s : State) (p : Location) → HoldsEnough s p k b → m ≡ length (s .points) → r0 ≡ initialRadius s → Holds s p (choiceApart s p) r) ⌝ }
 {
-    let t = by_count(b, r0);
-    filled(b, t)
+    let t = by_count(b, m, k, r0);
+    filled(b, t, m)
 }

@@ -1,12 +1,16 @@
 // Which points a lookup goes by: document 01, "Who is chosen", over lent arrays and a count.
 mod choice;
 
-ghost use Prim.Native.Nat.{_<_};
-ghost use Rattle.model.specs.Point.{location};
-ghost use Rattle.model.specs.Lists.{All};
-ghost use Rattle.model.specs.Invariant.{Sound};
-ghost use Rattle.columns.specs.Columns.{pointsIn, surveyIn};
+ghost use mathlib.Core.Path.{_≡_};
+ghost use Prim.Native.Nat.{ℕ, _<_, _≤_};
+ghost use lib.ListN.{length};
+ghost use Rattle.model.specs.Point.{Location, location};
+ghost use Rattle.model.specs.Radius.{initialRadius};
+ghost use Rattle.columns.specs.Columns.{surveyIn};
+ghost use Rattle.squares.specs.Squares.{HoldsSquares};
 ghost use Rattle.neighbours.specs.Chose.{Chose};
+ghost use Rattle.neighbours.specs.Selects.{HoldsEnough};
+use candidates::Candidates;
 
 // A chosen point with its squared distance d² and its distance D.
 pub struct Neighbour {
@@ -31,7 +35,62 @@ struct Selection {
     radius: u32,
 }
 
-// The neighbours of (px, py). Each point of the arrays as it is read is in the domain and in range. Rules 2 to 5 stand alone in `choice::apart`, for a lookup where no point is at the location.
+// The first points in order, as many as the choice goes by, and how many points are within R0.
+struct Nearest {
+    first: Candidates,
+    within: u32,
+}
+
+// The nearest points by their squared distances and R0. Only those within a limit are put in order: the first of them are the first of all.
+fn among<'a>(
+    xs: &'a [u16; 256],
+    ys: &'a [u16; 256],
+    zs: &'a [i8; 256],
+    squares: &'a [u32],
+    r0: u32,
+) -> Nearest
+    requires { ⌜ length (now squares) ≤ 256 ⌝ }
+    ensures { λ r. ⌜ ((n : ℕ) (p : Location) → HoldsSquares (surveyIn (now (xs .entry)) (now (ys .entry)) (now (zs .entry)) n) p (now (squares .entry))
+        → r0 ≡ initialRadius (surveyIn (now (xs .entry)) (now (ys .entry)) (now (zs .entry)) n)
+        → HoldsEnough (surveyIn (now (xs .entry)) (now (ys .entry)) (now (zs .entry)) n) p (r .within) (r .first)) ⌝ }
+{
+    let reach = root::reach_of(r0);
+    let within = squares::count_within(squares, reach);
+    let limit = squares::limit_for(squares, within, reach);
+    Nearest {
+        first: candidates::first(xs, ys, zs, squares, limit),
+        within: within,
+    }
+}
+
+// Room for the squared distances of all points.
+fn blank() -> [u32; 256]
+    ensures { λ r. ⌜ 256 ≡ length r ⌝ }
+{
+    [0; 256]
+}
+
+// The nearest points of (px, py).
+fn nearest_points<'a>(
+    xs: &'a [u16; 256],
+    ys: &'a [u16; 256],
+    zs: &'a [i8; 256],
+    n: usize,
+    px: u16,
+    py: u16,
+    r0: u32,
+) -> Nearest
+    requires { ⌜ (px < 4096) × (py < 4096) ⌝ }
+    ensures { λ r. ⌜ (r0 ≡ initialRadius (surveyIn (now (xs .entry)) (now (ys .entry)) (now (zs .entry)) n)
+        → HoldsEnough (surveyIn (now (xs .entry)) (now (ys .entry)) (now (zs .entry)) n) (location px py) (r .within) (r .first)) ⌝ }
+{
+    let m = columns::clamped(n);
+    let mut room = blank();
+    squares::fill(xs, ys, px, py, &mut room[..m]);
+    among(xs, ys, zs, &room[..m], r0)
+}
+
+// The neighbours of (px, py). Rules 2 to 5 stand alone in `choice::apart`, for a lookup where no point is at the location.
 pub fn choose<'a>(
     xs: &'a [u16; 256],
     ys: &'a [u16; 256],
@@ -42,16 +101,16 @@ pub fn choose<'a>(
 ) -> Chosen
     requires { ⌜ (px < 4096) × (py < 4096) ⌝ }
     ensures { λ r. ⌜ Chose (surveyIn (now (xs .entry)) (now (ys .entry)) (now (zs .entry)) n) (location px py) r ⌝ }
-    ensures { λ _. ⌜ All Sound (pointsIn (now (xs .entry)) (now (ys .entry)) (now (zs .entry)) n) ⌝ }
 {
-    let b = candidates::nearest(xs, ys, zs, n, px, py);
-    if choice::coincident(b) {
-        let first = Selection {
+    let m = columns::clamped(n);
+    let r0 = extent::initial_radius(xs, ys, n);
+    let b = nearest_points(xs, ys, zs, n, px, py, r0);
+    if choice::coincident(b.first) {
+        let one = Selection {
             count: 1,
             radius: 0,
         };
-        return choice::filled(b, first);
+        return choice::filled(b.first, one, m);
     }
-    let r0 = extent::initial_radius(xs, ys, n);
-    choice::apart(b, r0)
+    choice::apart(b.first, m, b.within, r0)
 }

@@ -1,40 +1,31 @@
 -- The fault of a list of records is its fault by ranks.
-use mathlib.Core.Path.{_≡_, refl}
-use Prim.Native.Nat.{ℕ, _+_, _<_}
+use mathlib.Core.Path.{_≡_, refl, _∙_}
+use Prim.Native.Nat.{ℕ, _+_, _*_, _<_}
 use native.Mathlib.Omega.{arith}
-use native.Mathlib.Decide.{decLe}
 use mathlib.Core.Bool.{Bool, true, false, cond, not}
 use mathlib.Core.List.{List, [], _∷_}
 use lib.Dec.{ltb}
-use borrow.Author.Tests.{lt-ltb, le-ltb, eq-eqb, ne-eqb}
+use borrow.Author.Tests.{ltb-true, ltb-false, lt-ltb, le-ltb}
 use Rattle.model.specs.Point.{Point, inDomain, lexical, precedes}
 use Rattle.model.specs.SurveyFile.{fault, faultAfter}
+use Rattle.laws.proofs.PrecedesLaws.{lexical-number}
 use Rattle.laws.proofs.RecordLaws.{domain-bounds}
 use Rattle.record_points.specs.Rank.{rank, faultFrom}
 
+-- n is past m
+past : (m n : ℕ) → ltb m n ≡ not (ltb n (m + 1))
+past m n = go (ltb m n) refl
+  where
+    go : (t : Bool) → ltb m n ≡ t → t ≡ not (ltb n (m + 1))
+    go true e = let l = ltb-true m n e in rw (le-ltb n (m + 1) (omega arith))
+    go false e = let l = ltb-false m n e in rw (lt-ltb n (m + 1) (omega arith))
+
 -- in the domain, a location comes after another exactly where its rank is greater
 rank-order : (x y u v : ℕ) → y < 4096 → v < 4096 → lexical x u (ltb y v) ≡ not (ltb (rank u v) (rank x y + 1))
-rank-order x y u v h k = elim (decLe u x) [
-  | no n ↦
-      let a : x < u = omega arith in
-      rw (lt-ltb x u a, le-ltb (rank u v) (rank x y + 1) (omega arith))
-  | yes n ↦ elim (decLe x u) [
-    | no m ↦
-        let a : x ≡ u → ⊥ = λ e. omega arith in
-        rw (le-ltb x u n, ne-eqb x u a, lt-ltb (rank u v) (rank x y + 1) (omega arith))
-    | yes m ↦
-        let e : x ≡ u = omega arith in
-        rw (le-ltb x u n, eq-eqb x u e) (go e)
-  ]
-]
-  where
-    go : x ≡ u → ltb y v ≡ not (ltb (rank u v) (rank x y + 1))
-    go e = elim (decLe v y) [
-      | yes n ↦ rw (le-ltb y v n, lt-ltb (rank u v) (rank x y + 1) (omega arith))
-      | no n ↦
-          let a : y < v = omega arith in
-          rw (lt-ltb y v a, le-ltb (rank u v) (rank x y + 1) (omega arith))
-    ]
+rank-order x y u v h k =
+    let e : x * 4096 + y ≡ rank x y = omega arith in
+    let g : u * 4096 + v ≡ rank u v = omega arith in
+    rw (e, g) at (lexical-number 4096 x u y v h k) ∙ past (rank x y) (rank u v)
 
 turned : (t : Bool) (m n : ℕ) → cond (not t) m n ≡ cond t n m
 turned true m n = refl

@@ -24,8 +24,8 @@ fn at_most(m: u64, y: f64) -> bool
     to_float(m) <= y
 }
 
-// The whole part of a float that is not negative and below 4,194,304.
-pub fn whole_part(y: f64) -> u64
+// The whole part, found by halving what it can be.
+fn searched(y: f64) -> u64
     requires { ⌜ T (plain y) × (num y < 4194304 * den y) ⌝ }
     ensures { λ k. ⌜ (k ≡ num y / den y) × (k < 4194304) ⌝ }
 {
@@ -40,6 +40,31 @@ pub fn whole_part(y: f64) -> u64
         }
     }
     low
+}
+
+// A number to try first: the last digit of y - 1/2 + 2⁵² counts 1, so that its last digits are mostly the whole part of y. Nothing rests on it.
+fn guess(y: f64) -> u64
+    ensures { λ k. ⌜ k < 4194304 ⌝ }
+{
+    let t = y - 0.5 + 4503599627370496.0;
+    if 0.0 <= t {
+        return f64::to_bits(t) % 4194304;
+    }
+    0
+}
+
+// The whole part of a float that is not negative and below 4,194,304: the guess where comparing bears it out, and otherwise by a search.
+pub fn whole_part(y: f64) -> u64
+    requires { ⌜ T (plain y) × (num y < 4194304 * den y) ⌝ }
+    ensures { λ k. ⌜ (k ≡ num y / den y) × (k < 4194304) ⌝ }
+{
+    let k = guess(y);
+    if at_most(k, y) {
+        if !at_most(k + 1, y) {
+            return k;
+        }
+    }
+    searched(y)
 }
 
 // The whole number nearest to half of y: to 256 times the mean, where y is 512 times the mean.

@@ -1,16 +1,17 @@
-// Whole square roots, and by them a distance D and the initial radius R0: document 01, "Distance" and "Search radius".
+// Whole square roots, and by them a distance D, the initial radius R0 and which squared distances are within it: document 01, "Distance" and "Search radius".
 ghost use mathlib.Core.Path.{_≡_};
-ghost use Prim.Native.Nat.{_<_, _≤_, _^_};
+ghost use Prim.Native.Nat.{ℕ, _*_, _<_, _≤_, _^_};
+ghost use lib.Dec.{leb};
 ghost use Rattle.model.specs.Distance.{root, distanceOf};
 ghost use Rattle.model.specs.Radius.{radiusOf};
 
-// The greatest whole number whose square does not exceed n, one bit at a time from the highest that a root below 2^25 can have.
-pub fn root_of(n: u64) -> u64
-    requires { ⌜ n < 2 ^ 50 ⌝ }
+// The greatest whole number whose square does not exceed n, one bit at a time from the highest that it can have.
+fn root_in(n: u64, bits: u64) -> u64
+    requires { ⌜ (bits ≤ 25) × (n < 2 ^ bits * 2 ^ bits) ⌝ }
     ensures { λ r. ⌜ (r ≡ root n) × (r < 2 ^ 25) ⌝ }
 {
     let mut r: u64 = 0;
-    let mut k: u64 = 25;
+    let mut k = bits;
     let d = loop {
         if k == 0 {
             break r;
@@ -24,11 +25,34 @@ pub fn root_of(n: u64) -> u64
     d
 }
 
+// The same of every n below 2⁵⁰. A distance in the domain has 21 bits: the others need not be tried.
+pub fn root_of(n: u64) -> u64
+    requires { ⌜ n < 2 ^ 50 ⌝ }
+    ensures { λ r. ⌜ (r ≡ root n) × (r < 2 ^ 25) ⌝ }
+{
+    if n < 4398046511104 {
+        return root_in(n, 21);
+    }
+    root_in(n, 25)
+}
+
 // D of a squared distance.
 pub fn distance_of(d2: u32) -> u32
     ensures { λ r. ⌜ (r ≡ distanceOf d2) × (r < 2 ^ 25) ⌝ }
 {
     root_of(65536 * (d2 as u64)) as u32
+}
+
+// The greatest squared distance whose D does not exceed r, or 2³² - 1 where that is more.
+pub fn reach_of(r: u32) -> u32
+    ensures { λ k. ⌜ ((d : ℕ) → d < 4294967296 → leb d k ≡ leb (distanceOf d) r) ⌝ }
+{
+    let n = r as u64;
+    let k = (n * n + 2 * n) / 65536;
+    if k < 4294967295 {
+        return k as u32;
+    }
+    4294967295
 }
 
 // R0 of an area and a number of points, with 355/113 for π: 51,838,976 is 65,536 * 7 * 113.

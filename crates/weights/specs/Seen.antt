@@ -2,11 +2,13 @@
 use Prim.Native.Nat.{ℕ, _*_, _≤_, _<_}
 use mathlib.Core.List.{List, [], map}
 use lib.IntN.{pos, _-ℤ_, _*ℤ_, natAbs}
+use lib.Ieee.{Float, binary64, div}
 use lib.ListN.{take, getD}
 use Rattle.model.specs.Point.{Point, point, location, surveyOf}
 use Rattle.model.specs.Distance.{inner}
 use Rattle.model.specs.Influence.{influenceAt}
 use Rattle.model.specs.Weight.{Neighbourhood}
+use Rattle.model.specs.Computed.{float}
 use Rattle.neighbours.specs.declared.Neighbour.{Neighbour}
 use Rattle.neighbours.specs.declared.Chosen.{Chosen}
 
@@ -25,6 +27,11 @@ unfoldable pub excessBetween : ℕ → ℕ → Neighbour → Neighbour → ℕ
 unfolding inner
 excessBetween px py a b =
     natAbs (pos (a .distance * b .distance) -ℤ (pos 65536 *ℤ inner (surveyOf []) (location px py) (pointOf a) (pointOf b)))
+
+-- |1 - cos| of two neighbours
+unfoldable pub cosineGap : ℕ → ℕ → Neighbour → Neighbour → Float
+unfolding excessBetween float div
+cosineGap px py a b = div binary64 (float (excessBetween px py a b)) (float (a .distance * b .distance))
 
 unfoldable pub seen : ℕ → ℕ → Chosen → Neighbourhood
 unfolding influenceAt excessBetween

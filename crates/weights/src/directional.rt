@@ -1,13 +1,13 @@
 // Terms and weights: what each neighbour adds to the others' weights by the angle between them, document 01's shadow.
 ghost use mathlib.Core.Path.{_≡_};
-ghost use mathlib.Core.Bool.{cond};
 ghost use Prim.Native.Nat.{ℕ, _+_, _*_, _<_, _≤_};
-ghost use lib.Ieee.{binary64, nan, mul, div};
-ghost use lib.ListN.{getD};
-ghost use Rattle.model.specs.Computed.{float, zeroF, sumF, factorF, termF, productF, weightF};
+ghost use lib.Ieee.{nan};
+ghost use lib.ListN.{getD, length};
+ghost use Rattle.model.specs.Computed.{sumF, productF, weightF};
 ghost use Rattle.model.specs.Weight.{allEdge};
 ghost use mathlib.Core.Bool.{false};
-ghost use Rattle.weights.specs.Seen.{excessBetween, seen, Bounded};
+ghost use Rattle.weights.specs.Seen.{excessBetween, cosineGap, seen, Bounded};
+ghost use Rattle.weights.specs.Lists.{HasFactors, HasTerms};
 use crate::factor;
 use neighbours::Chosen;
 use neighbours::Neighbour;
@@ -38,34 +38,49 @@ fn product(a: Neighbour, b: Neighbour) -> u64
     (a.distance as u64) * (b.distance as u64)
 }
 
-// What a neighbour with the factor s adds to another's directional term, and nothing to its own.
-fn term(own: bool, s: f64, excess: u64, product: u64) -> f64
-    requires { ⌜ (excess ≤ 9007199254740992) × (product ≤ 9007199254740992) ⌝ }
-    ensures { λ r. ⌜ r ≡ cond own zeroF (mul binary64 s (div binary64 (float excess) (float product))) ⌝ }
+// |1 - cos| of two neighbours.
+fn cosine_gap(a: Neighbour, b: Neighbour, px: u16, py: u16) -> f64
+    requires { ⌜ (a .distance ≤ 16777216) × (b .distance ≤ 16777216) ⌝ }
+    ensures { λ r. ⌜ r ≡ cosineGap px py a b ⌝ }
 {
-    if own {
-        return 0.0;
-    }
-    s * (to_float(excess) / to_float(product))
+    to_float(excess(a, b, px, py)) / to_float(product(a, b))
 }
 
-// The sum of what the neighbours with the factors s add to the directional term of neighbour i.
-fn terms_of(c: Chosen, i: usize, px: u16, py: u16, s: &[f64; 10]) -> f64
-    requires { ⌜ Bounded c × (i < c .count) ⌝ }
-    requires { ⌜ ((k : ℕ) → k < c .count → getD (now s) k nan ≡ factorF (seen px py c .influence k)) ⌝ }
-    ensures { λ r. ⌜ r ≡ sumF (termF (seen px py c) i) (c .count) ⌝ }
+// Takes neighbour i into the sums t of what the first i, with the factors s, add to each other's terms. |1 - cos| of i and one before it goes into the
+// sums of both. The rows come in order of choice, so each sum takes its parts in that order; the last part of the sum of i is its own, which is 0.
+fn add_row(c: Chosen, i: usize, px: u16, py: u16, s: &[f64; 10], t: &mut [f64])
+    requires { ⌜ Bounded c × (i < c .count) × (i < length (now t)) ⌝ }
+    requires { ⌜ HasFactors (seen px py c) (now s) (c .count) × HasTerms (seen px py c) (now t) i ⌝ }
+    ensures { λ _. ⌜ HasTerms (seen px py c) (now (t .exit)) (i + 1) ⌝ }
 {
     let items = c.items;
-    let n = c.count;
     let a = items[i];
+    let own = s[i];
     let mut sum = 0.0;
     let mut j = 0usize;
-    while j < n {
+    while j < i {
         let b = items[j];
-        sum = sum + term(j == i, s[j], excess(a, b, px, py), product(a, b));
+        let v = cosine_gap(a, b, px, py);
+        sum = sum + s[j] * v;
+        t[j] = t[j] + own * v;
         j += 1;
     }
-    sum
+    t[i] = sum + 0.0;
+}
+
+// The sums of what the neighbours, with the factors s, add to the directional term of each.
+fn terms(c: Chosen, px: u16, py: u16, s: &[f64; 10]) -> [f64; 10]
+    requires { ⌜ Bounded c × HasFactors (seen px py c) (now s) (c .count) ⌝ }
+    ensures { λ r. ⌜ HasTerms (seen px py c) r (c .count) ⌝ }
+{
+    let n = c.count;
+    let mut t = [0.0; 10];
+    let mut i = 0usize;
+    while i < n {
+        add_row(c, i, px, py, s, &mut t);
+        i += 1;
+    }
+    t
 }
 
 // The sum of the first n.
@@ -97,10 +112,11 @@ pub(crate) fn weights_apart(c: Chosen, px: u16, py: u16) -> [f64; 10]
     let n = c.count;
     let s = factor::factors(c);
     let total = sum_of(&s, n);
+    let t = terms(c, px, py, &s);
     let mut w = [0.0; 10];
     let mut i = 0usize;
     while i < n {
-        w[i] = weight(s[i], terms_of(c, i, px, py, &s), total);
+        w[i] = weight(s[i], t[i], total);
         i += 1;
     }
     w

@@ -1,55 +1,70 @@
--- `put` meets its contract: the place that `place` finds is where `insert` puts the candidate, and the buffer's first eleven are those of the list.
-use mathlib.Core.Path.{_≡_}
-use Prim.Native.Nat.{ℕ, _+_, _≤_, _<_}
-use native.Mathlib.Numerals.{add-one}
+-- `put` meets its contract. The invariant: the first k stand, and the carried key put into the others gives what was asked for.
+use mathlib.Core.Path.{_≡_, refl, _∙_}
+use Prim.Native.Nat.{_-_, _≤_}
 use native.Mathlib.Omega.{arith}
-use mathlib.Core.List.{List}
-use lib.ListN.{length, take}
-use lib.Seq.{length-take-le, getD-take}
+use lib.ListN.{length, drop, length-set}
 use borrow.Author.Needs.{needs}
-use Rattle.model.specs.Order.{insert}
-use Rattle.laws.proofs.SortLaws.{insert-at}
-use Rattle.candidates.specs.declared.Candidate.{Candidate}
-use Rattle.candidates.specs.Nearest.{precedesBy, noCandidate, Place}
-use Rattle.laws.proofs.MapLaws.{length-under}
-use Rattle.laws.proofs.Insertions.{putIn, put-room, put-full}
+use Rattle.candidates.specs.Keys.{Ascending}
+use Rattle.candidates.proofs.Exchange.{puttingIn, putting-more, putting-end}
 use Rattle.candidates.proofs.put.Statement.{statement}
 use Rattle.candidates.proofs.put.Tie as tie
 
-module _ (l m : List Candidate) (n i : ℕ) (a : Candidate) (h : Place l n a i) (len : length l ≡ 11) (r : m ≡ take 11 (putIn i a l)) where
-  placed : n ≤ 11 → insert precedesBy a (take n l) ≡ putIn i a (take n l)
-  placed le =
-      let used : length (take n l) ≡ n = length-take-le n l (omega arith) in
-      insert-at precedesBy i (take n l) a noCandidate (omega (arith, h .within))
-      (λ k g. let lt : k < n = omega (arith, h .within) in rw (getD-take n l k noCandidate) (h .passed k g))
-      (λ g. let lt : i < n = omega arith in rw (getD-take n l i noCandidate) (h .here lt))
+abbrev Inv-loop : tie.InvT-loop
+Inv-loop key a₀ c₀ k₀ a c k = (k ≤ 11) × (length a ≡ 11) × Ascending (drop k a) × (puttingIn k c a ≡ puttingIn 0 c₀ a₀)
 
-  room : n < 11 → take (n + 1) m ≡ take 11 (insert precedesBy a (take n l))
-  room lt = rw (r, add-one, placed (omega arith)) (put-room 11 n i a l lt (h .within) len)
+abbrev μ-loop : tie.MeasureT-loop
+μ-loop key a₀ c₀ k₀ a c k = 11 - k
 
-  full : n ≡ 11 → take 11 m ≡ take 11 (insert precedesBy a (take n l))
-  full e = rw (r, placed (omega arith), e) (put-full 11 i a l len)
+loop-holds : tie.Need-loop-holds Inv-loop μ-loop
+loop-holds c = (omega arith, search needs, c .pre, refl)
 
-place-requires : tie.Need-place-requires
-place-requires c κs = search needs
+mul-t : tie.Need-mul-t Inv-loop μ-loop
+mul-t c = omega arith
 
-put-at-requires : tie.Need-put-at-requires
-put-at-requires c κs = search needs
+array-read-t : tie.Need-array-read-t Inv-loop μ-loop
+array-read-t c = omega arith
 
-add-t8 : tie.Need-add-t8
-add-t8 c = search needs
+lesser-requires : tie.Need-lesser-requires Inv-loop μ-loop
+lesser-requires c κs = search needs
 
-returns : tie.Need-returns
-returns c =
-    let s = c .before .before .before .before in
-    let len : length (s .args .b .items) ≡ 11 = search (length-under, needs) in
-    (omega arith, room _ _ _ _ _ (c .before .before .before .place .ensures) len (c .before .put-at .ensures) (c .if1 .taken))
+mul-a : tie.Need-mul-a Inv-loop μ-loop
+mul-a c = omega arith
 
-returns-2 : tie.Need-returns-2
-returns-2 c =
-    let s = c .before .before .before .before in
-    let len : length (s .args .b .items) ≡ 11 = search (length-under, needs) in
-    (omega arith, full _ _ _ _ _ (c .before .before .before .place .ensures) len (c .before .put-at .ensures) (omega arith))
+array-write-a : tie.Need-array-write-a Inv-loop μ-loop
+array-write-a c = omega arith
+
+greater-requires : tie.Need-greater-requires Inv-loop μ-loop
+greater-requires c κs = search needs
+
+add-k : tie.Need-add-k Inv-loop μ-loop
+add-k c = omega arith
+
+loop-less : tie.Need-loop-less Inv-loop μ-loop
+loop-less c = omega arith
+
+loop-again : tie.Need-loop-again Inv-loop μ-loop
+loop-again c =
+    let l = c .before .before .before .loop in
+    let m = putting-more (l .a) (l .k) (l .c) _ _ (omega arith) (l .inv .2) (c .before .lesser .ensures) (c .greater .ensures) in
+    (omega arith, simp length-set (l .inv .1), m .1, m .0 ∙ l .inv .3)
+
+returns : tie.Need-returns Inv-loop μ-loop
+returns c = let l = c .before .loop in putting-end (l .a) 11 (l .k) (l .c) _ (l .inv .1) (omega arith) (l .inv .3)
 
 pub put-spec : {M : Type 1} → statement M
-put-spec = tie.close (tie.spec place-requires put-at-requires add-t8 returns returns-2)
+put-spec =
+    tie.close
+    (tie.spec
+    Inv-loop
+    μ-loop
+    loop-holds
+    mul-t
+    array-read-t
+    lesser-requires
+    mul-a
+    array-write-a
+    greater-requires
+    add-k
+    loop-less
+    loop-again
+    returns)

@@ -5,7 +5,7 @@ use lib.ListN.{getD-replicate}
 use lib.Ieee.{nan}
 use Rattle.model.specs.Computed.{oneF}
 use Rattle.weights.specs.Seen.{seen}
-use Rattle.weights.proofs.TermLaws.{weight-edges}
+use Rattle.weights.proofs.WeightLaws.{weight-edges}
 use Rattle.weights.proofs.weights.Statement.{statement}
 use Rattle.weights.proofs.weights.Tie as tie
 

@@ -10,7 +10,7 @@ filled-requires : tie.Need-filled-requires
 filled-requires c κs = c .by-count .ensures .0
 
 returns : tie.Need-returns
-returns c = λ s p h e. c .filled .ensures s p _ h (c .before .by-count .ensures .1 s p h e)
+returns c = λ s p h em er. c .filled .ensures s p _ _ h em (c .before .by-count .ensures .1 s p h em er)
 
 pub apart-spec : {M : Type 1} → statement M
 apart-spec = tie.close (tie.spec by-count-requires filled-requires returns)

@@ -1,17 +1,12 @@
 -- `by_count` meets its contract: a return for each rule.
 use native.Mathlib.Omega.{arith}
 use borrow.Author.Needs.{needs}
-use Rattle.neighbours.proofs.FirstEleven.{selects-few, selects-four, selects-within, selects-ten}
+use Rattle.neighbours.proofs.FirstPoints.{selects-few, selects-four, selects-within, selects-ten}
 use Rattle.neighbours.proofs.choice.by_count.Statement.{statement}
 use Rattle.neighbours.proofs.choice.by_count.Tie as tie
 
-count-within-requires : tie.Need-count-within-requires
-count-within-requires c κs = search needs
-
 returns : tie.Need-returns
-returns c =
-    let b = c .before .before in
-    (omega arith, λ s p h e. selects-few s p _ h _ _ e (b .count-within .ensures) (omega arith) (omega arith))
+returns c = (omega arith, λ s p h em er. selects-few s p _ _ h _ em (omega arith) (omega arith))
 
 array-copy-out-fifth : tie.Need-array-copy-out-fifth
 array-copy-out-fifth c = search needs
@@ -20,14 +15,10 @@ distance-of-requires : tie.Need-distance-of-requires
 distance-of-requires c κs = search needs
 
 returns-2 : tie.Need-returns-2
-returns-2 c =
-    let b = c .before .before .before .before in
-    (omega arith, λ s p h e. selects-four s p _ h _ _ e (b .count-within .ensures) _ (omega arith) (omega arith) (c .distance-of .ensures .0))
+returns-2 c = (omega arith, λ s p h em er. selects-four s p _ _ h _ _ em (omega arith) (omega arith) (c .distance-of .ensures .0))
 
 returns-3 : tie.Need-returns-3
-returns-3 c =
-    let b = c .before .before in
-    (omega arith, λ s p h e. selects-within s p _ h _ _ e (b .count-within .ensures) (omega arith) (omega arith))
+returns-3 c = (omega arith, λ s p h em er. selects-within s p _ _ h _ er (omega arith) (omega arith))
 
 array-copy-out-eleventh : tie.Need-array-copy-out-eleventh
 array-copy-out-eleventh c = search needs
@@ -36,15 +27,12 @@ distance-of-requires-2 : tie.Need-distance-of-requires-2
 distance-of-requires-2 c κs = search needs
 
 returns-4 : tie.Need-returns-4
-returns-4 c =
-    let b = c .before .before .before .before in
-    (omega arith, λ s p h e. selects-ten s p _ h _ _ e (b .count-within .ensures) _ (omega arith) (c .distance-of2 .ensures .0))
+returns-4 c = (omega arith, λ s p h em er. selects-ten s p _ _ h _ (omega arith) (c .distance-of2 .ensures .0))
 
 pub by-count-spec : {M : Type 1} → statement M
 by-count-spec =
     tie.close
     (tie.spec
-    count-within-requires
     returns
     array-copy-out-fifth
     distance-of-requires

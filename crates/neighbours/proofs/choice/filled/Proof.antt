@@ -1,4 +1,4 @@
--- `filled` meets its contract: the neighbours are the first of the nearest, with their distances.
+-- `filled` meets its contract: the neighbours are the first candidates, with their distances.
 use borrow.Author.Needs.{needs}
 use Rattle.neighbours.proofs.Filling.{gives-selected}
 use Rattle.neighbours.proofs.choice.filled.Statement.{statement}
@@ -8,7 +8,7 @@ neighbours-requires : tie.Need-neighbours-requires
 neighbours-requires c κs = search needs
 
 returns : tie.Need-returns
-returns c = λ s p k h g. gives-selected s p _ k _ _ h g (c .before .before .pre) (c .neighbours .ensures)
+returns c = λ s p n k h e g. gives-selected s p n _ _ k _ _ h e g (c .before .before .pre) (c .neighbours .ensures)
 
 pub filled-spec : {M : Type 1} → statement M
 filled-spec = tie.close (tie.spec neighbours-requires returns)

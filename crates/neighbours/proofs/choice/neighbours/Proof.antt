@@ -9,7 +9,7 @@ use lib.Seq.{take-suc, take-suc-set}
 use borrow.Author.Needs.{needs}
 use Rattle.candidates.specs.declared.Candidate.{Candidate}
 use Rattle.neighbours.specs.declared.Neighbour.{Neighbour}
-use Rattle.candidates.specs.Nearest.{noCandidate}
+use Rattle.candidates.specs.First.{noCandidate}
 use Rattle.neighbours.specs.Selects.{withDistance}
 use Rattle.laws.proofs.MapLaws.{length-under}
 use Rattle.neighbours.proofs.choice.neighbours.Statement.{statement}

@@ -1,4 +1,4 @@
--- `weights_apart` meets its contract. The loop's invariant: the first i places hold their weights.
+-- `weights_apart` meets its contract. The loop's invariant: the first i places hold what the factors, the terms and the total make.
 use mathlib.Core.Path.{_≡_, _∙_}
 use Prim.Native.Nat.{ℕ, _-_, _≤_, _<_}
 use native.Mathlib.Nat.{not-suc-le-zero}
@@ -6,25 +6,30 @@ use native.Mathlib.Omega.{arith}
 use lib.ListN.{getD, length, length-set}
 use lib.Ieee.{nan}
 use borrow.Author.Needs.{needs}
-use Rattle.model.specs.Computed.{weightF, factorF}
+use Rattle.model.specs.Computed.{productF, factorF}
 use Rattle.weights.specs.Seen.{seen}
 use Rattle.weights.proofs.Places.{filled}
-use Rattle.weights.proofs.TermLaws.{weight-is}
+use Rattle.weights.proofs.WeightLaws.{weight-is}
 use Rattle.relative_error.proofs.SumLaws.{sumF-same}
 use Rattle.weights.proofs.directional.weights_apart.Statement.{statement}
 use Rattle.weights.proofs.directional.weights_apart.Tie as tie
 
 abbrev Inv-loop : tie.InvT-loop
-Inv-loop c px py n s total w₀ i₀ w i = (i ≤ n) × (length w ≡ 10) × ((k : ℕ) → k < i → getD w k nan ≡ weightF (seen px py c) k)
+Inv-loop px py n s total t w₀ i₀ w i = (i ≤ n) × (length w ≡ 10) × ((k : ℕ) → k < i → getD w k nan ≡ productF (getD s k nan) (getD t k nan) total)
 
 abbrev μ-loop : tie.MeasureT-loop
-μ-loop c px py n s total w₀ i₀ w i = n - i
+μ-loop px py n s total t w₀ i₀ w i = n - i
 
 factors-requires : tie.Need-factors-requires Inv-loop μ-loop
 factors-requires c κs = c .pre .0 .size
 
 sum-of-requires : tie.Need-sum-of-requires Inv-loop μ-loop
 sum-of-requires c κs = search needs
+
+terms-requires : tie.Need-terms-requires Inv-loop μ-loop
+terms-requires c κs =
+    let f = c .before .before .before in
+    (f .before .pre .0, f .factors .ensures (f .before .args .px) (f .before .args .py))
 
 loop-holds : tie.Need-loop-holds Inv-loop μ-loop
 loop-holds c = (omega arith, search needs, λ k h. absurd (not-suc-le-zero h))
@@ -35,10 +40,11 @@ mul-weight c = omega arith
 array-read-weight : tie.Need-array-read-weight Inv-loop μ-loop
 array-read-weight c = omega arith
 
-terms-of-requires : tie.Need-terms-of-requires Inv-loop μ-loop
-terms-of-requires c κs =
-    let s = c .before .before .before .before .before .before in
-    ((s .pre .0, omega arith), c .before .before .before .before .before .factors .ensures (s .args .px) (s .args .py))
+mul-weight-2 : tie.Need-mul-weight-2 Inv-loop μ-loop
+mul-weight-2 c = omega arith
+
+array-read-weight-2 : tie.Need-array-read-weight-2 Inv-loop μ-loop
+array-read-weight-2 c = omega arith
 
 weight-requires : tie.Need-weight-requires Inv-loop μ-loop
 weight-requires c κs = search needs
@@ -56,18 +62,21 @@ loop-less : tie.Need-loop-less Inv-loop μ-loop
 loop-less c = omega arith
 
 loop-again : tie.Need-loop-again Inv-loop μ-loop
-unfolding seen
 loop-again c =
-    let m = c .before .before .before .before in
-    let a = m .before .before .before .before .args in
-    let h = seen (a .px) (a .py) (a .c) in
-    let s = m .before .before .before .factors .ensures (a .px) (a .py) in
-    let f = m .before .sum-of .ensures ∙ sumF-same _ (λ k. factorF (h .influence k)) (a .c .count) s in
-    let e = weight-is h (m .loop .i) (m .before .before .before .before .pre .1) (c .weight .ensures) (s (m .loop .i) (omega arith)) (c .before .terms-of .ensures) f in
-    (omega arith, simp length-set (m .loop .inv .1), filled (weightF h) (m .loop .w) (m .loop .i) (omega arith) e (m .loop .inv .2))
+    let m = c .before .before in
+    (omega arith, simp length-set (m .loop .inv .1), filled _ (m .loop .w) (m .loop .i) (omega arith) (c .weight .ensures) (m .loop .inv .2))
 
 returns : tie.Need-returns Inv-loop μ-loop
-returns c = λ i h. c .before .loop .inv .2 i (omega arith)
+unfolding seen
+returns c =
+    let t = c .before .before in
+    let u = t .before .before in
+    let f = u .before .before in
+    let a = f .before .args in
+    let h = seen (a .px) (a .py) (a .c) in
+    let s = f .factors .ensures (a .px) (a .py) in
+    let total = u .sum-of .ensures ∙ sumF-same _ (λ k. factorF (h .influence k)) (a .c .count) s in
+    λ i l. weight-is h i (f .before .pre .1) (c .before .loop .inv .2 i (omega arith)) (s i l) (t .terms .ensures i l) total
 
 pub weights-apart-spec : {M : Type 1} → statement M
 weights-apart-spec =
@@ -77,10 +86,12 @@ weights-apart-spec =
     μ-loop
     factors-requires
     sum-of-requires
+    terms-requires
     loop-holds
     mul-weight
     array-read-weight
-    terms-of-requires
+    mul-weight-2
+    array-read-weight-2
     weight-requires
     mul-w
     array-write-w

@@ -1,0 +1,148 @@
+-- The first keys of the points within a limit are those of the first points in order.
+use mathlib.Core.Path.{_≡_, sym, ap, _∙_}
+use Prim.Native.Nat.{ℕ, _%_, _≤_, _<_}
+use native.Mathlib.Omega.{arith}
+use mathlib.Core.Bool.{Bool, true, false}
+use mathlib.Core.List.{List, map, map-map}
+use lib.Dec.{leb, ltb}
+use lib.IntN.{ℤ, pos}
+use lib.ListN.{length, take, getD, replicate, length-map}
+use lib.Seq.{take-take, take-append-le, take-length}
+use borrow.Author.Tests.{leb-true, leb-false}
+use Rattle.model.specs.Lists.{All}
+use Rattle.model.specs.Point.{Location, Point, State, point, precedes}
+use Rattle.model.specs.Distance.{squared}
+use Rattle.model.specs.Order.{sort}
+use Rattle.model.specs.Choice.{nearer, ordered}
+use Rattle.laws.proofs.ListLaws.{all-imp, all-map, all-take, pairs-map, pairs-both, map-same}
+use Rattle.laws.proofs.MapLaws.{take-map, getD-map}
+use Rattle.laws.proofs.PrecedesLaws.{less-lexical, more-lexical}
+use Rattle.laws.proofs.OrderLaws.{sort-all}
+use Rattle.laws.proofs.SortLaws.{length-sort, map-sort}
+use Rattle.laws.proofs.PartLaws.{passing, length-passing, Parted, take-sort-passing}
+use Rattle.columns.specs.Columns.{surveyIn}
+use Rattle.columns.proofs.ReadLaws.{length-points, points-at}
+use Rattle.squares.specs.Squares.{HoldsSquares, Words, within, placesWithin}
+use Rattle.squares.proofs.PlaceLaws.{places-below, places-ascend, map-places}
+use Rattle.candidates.specs.Keys.{keyAt, candidateOf, noKey, firstKeys}
+use Rattle.candidates.specs.First.{candidateAt, pointsWithin}
+use Rattle.candidates.proofs.KeyLaws.{key-squared, key-x, key-y, key-place, key-before, sort-before}
+
+module _ (xs ys : List ℕ) (zs : List ℤ) (n : ℕ) (p : Location) (squares : List ℕ) (words : Words squares)
+    (held : HoldsSquares (surveyIn xs ys zs n) p squares) (limit : ℕ) where
+  abbrev s : State
+  s = surveyIn xs ys zs n
+
+  abbrev pointAt : ℕ → Point
+  pointAt i = getD (s .points) i (point 0 0 (pos 0))
+
+  -- the point of a key
+  abbrev pointOf : ℕ → Point
+  pointOf key = pointAt (key % 256)
+
+  abbrev key : ℕ → ℕ
+  key i = keyAt xs ys squares i
+
+  abbrev inside : Point → Bool
+  inside a = leb (squared s p a) limit
+
+  abbrev places : List ℕ
+  places = placesWithin limit squares
+
+  size : (length squares ≡ length (s .points)) × (length squares ≤ 256)
+  size =
+      let e : length squares ≡ length (s .points) = ap length held ∙ length-map (s .points) (squared s p) in
+      (e, omega (arith, length-points xs ys zs n))
+
+  module _ (i : ℕ) (h : i < length squares) where
+    square-at : getD squares i 0 ≡ squared s p (pointAt i)
+    square-at = ap (λ (l : List ℕ). getD l i 0) held ∙ getD-map (squared s p) (s .points) i 0 (point 0 0 (pos 0)) (omega (arith, size .0))
+
+    at-place : pointAt i ≡ point (getD xs i 0 % 4096) (getD ys i 0 % 4096) (getD zs i (pos 0))
+    at-place = points-at xs ys zs n i (point 0 0 (pos 0)) (omega (arith, size .0, length-points xs ys zs n))
+
+    key-point : pointOf (key i) ≡ pointAt i
+    key-point = ap pointAt (key-place (getD squares i 0) (getD xs i 0 % 4096) (getD ys i 0 % 4096) i (omega arith) (omega arith) (omega (arith, size .1)))
+
+    key-candidate : candidateOf zs (key i) ≡ candidateAt s p (pointOf (key i))
+    unfolding candidateAt
+    key-candidate =
+        let x : getD xs i 0 % 4096 < 4096 = omega arith in
+        let y : getD ys i 0 % 4096 < 4096 = omega arith in
+        let k : i < 256 = omega (arith, size .1) in
+        rw (key-x (getD squares i 0) _ _ i x y k, key-y (getD squares i 0) _ _ i x y k, key-place (getD squares i 0) _ _ i x y k, key-squared (getD squares i 0) _ _ i x y k, ← square-at, at-place)
+
+    key-most : key i ≤ noKey
+    key-most =
+        let w : getD squares i 0 < 4294967296 = words i h in
+        let x : getD xs i 0 % 4096 < 4096 = omega arith in
+        let y : getD ys i 0 % 4096 < 4096 = omega arith in
+        omega (arith, size .1)
+
+  -- keys are compared as points are
+  key-nearer : (i j : ℕ) → i < j → i < length squares → j < length squares → nearer s p (pointOf (key j)) (pointOf (key i)) ≡ ltb (key j) (key i)
+  unfolding nearer
+  key-nearer i j l h k =
+      rw (key-point i h, key-point j k, ← square-at i h, ← square-at j k, at-place i h, at-place j k)
+      (key-before (getD squares i 0) (getD xs i 0 % 4096) (getD ys i 0 % 4096) i (getD squares j 0) (getD xs j 0 % 4096) (getD ys j 0 % 4096) j
+      (omega arith) (omega arith) (omega arith) (omega arith) l (omega (arith, size .1)))
+
+  below : All (λ i. i < length squares) places
+  below = places-below (λ i. within limit (getD squares i 0)) (length squares)
+
+  apart : (a b : Point) → inside a ≡ true → inside b ≡ false → squared s p a < squared s p b
+  apart a b e f = omega (arith, leb-true (squared s p a) limit e, leb-false (squared s p b) limit f)
+
+  -- what is within the limit comes before what is not
+  parted : Parted (nearer s p) inside
+  unfolding nearer
+  parted = record {
+    first = λ a b e f. less-lexical (squared s p a) (squared s p b) (precedes a b) (apart a b e f);
+    then = λ a b e f. more-lexical (squared s p b) (squared s p a) (precedes b a) (apart a b e f);
+  }
+
+  points-within : map pointAt places ≡ passing inside (s .points)
+  points-within =
+      map-places (λ i. within limit (getD squares i 0)) inside (s .points) (point 0 0 (pos 0)) (length squares) (omega (arith, size .0)) (λ i h. ap (λ d. leb d limit) (square-at i h))
+      ∙ rw (size .0, take-length)
+
+  pub found : length places ≡ pointsWithin s p limit
+  found = sym (length-map places pointAt) ∙ ap length points-within ∙ length-passing inside (s .points)
+
+  abbrev keys : List ℕ
+  keys = map key places
+
+  keys-ordered : map pointOf (sort ltb keys) ≡ sort (nearer s p) (passing inside (s .points))
+  keys-ordered =
+      map-sort pointOf ltb (nearer s p) keys
+      (pairs-map (λ a b. nearer s p (pointOf b) (pointOf a) ≡ ltb b a) key places
+      (pairs-both (λ i j. i < j) (λ i j. nearer s p (pointOf (key j)) (pointOf (key i)) ≡ ltb (key j) (key i)) (λ i. i < length squares) key-nearer places
+      (places-ascend (λ i. within limit (getD squares i 0)) (length squares)) below))
+      ∙ ap (sort (nearer s p))
+      (map-map pointOf key places
+      ∙ map-same (λ i. pointOf (key i)) pointAt places (all-imp (λ i. i < length squares) (λ i. pointOf (key i) ≡ pointAt i) key-point places below)
+      ∙ points-within)
+
+  keys-tell : All (λ k. candidateOf zs k ≡ candidateAt s p (pointOf k)) (sort ltb keys)
+  keys-tell =
+      sort-all ltb (λ k. candidateOf zs k ≡ candidateAt s p (pointOf k)) keys
+      (all-map (λ k. candidateOf zs k ≡ candidateAt s p (pointOf k)) key places
+      (all-imp (λ i. i < length squares) (λ i. candidateOf zs (key i) ≡ candidateAt s p (pointOf (key i))) key-candidate places below))
+
+  -- k of the first keys, of no more than were found, are the keys of the first k points in order
+  module _ (k : ℕ) (few : k ≤ 11) (some : k ≤ length places) where
+    keys-first : take k (firstKeys xs ys squares places) ≡ take k (sort ltb keys)
+    unfolding firstKeys
+    keys-first =
+        take-take k 11 _ few
+        ∙ ap (take k) (sort-before noKey 11 keys (all-map (λ e. e ≤ noKey) key places (all-imp (λ i. i < length squares) (λ i. key i ≤ noKey) key-most places below)))
+        ∙ take-append-le k (sort ltb keys) (replicate 11 noKey) (omega (arith, length-sort ltb keys, length-map places key))
+
+    pub first-are : map (candidateOf zs) (take k (firstKeys xs ys squares places)) ≡ map (candidateAt s p) (take k (ordered s p))
+    unfolding ordered
+    first-are =
+        ap (map (candidateOf zs)) keys-first
+        ∙ map-same (candidateOf zs) (λ e. candidateAt s p (pointOf e)) (take k (sort ltb keys)) (all-take _ k (sort ltb keys) keys-tell)
+        ∙ sym (map-map (candidateAt s p) pointOf (take k (sort ltb keys)))
+        ∙ ap (map (candidateAt s p))
+        (sym (take-map pointOf k (sort ltb keys)) ∙ ap (take k) keys-ordered ∙ take-sort-passing (nearer s p) inside parted k (s .points) (omega (arith, found)))

@@ -1,0 +1,43 @@
+-- The squared distances of all points, and which of them are within a limit.
+use mathlib.Core.Path.{_≡_}
+use Prim.Native.Nat.{ℕ, zero, suc, _<_, min, max}
+use mathlib.Core.Bool.{Bool, cond}
+use mathlib.Core.List.{List, [], _∷_, _++_, map}
+use lib.Dec.{leb}
+use lib.ListN.{length, take, getD}
+use Rattle.model.specs.Lists.{count}
+use Rattle.model.specs.Point.{Location, State}
+use Rattle.model.specs.Distance.{squared}
+
+-- d² of each point of s, seen from p
+abbrev pub HoldsSquares : State → Location → List ℕ → Type 0
+HoldsSquares s p l = l ≡ map (squared s p) (s .points)
+
+-- each has 32 bits
+abbrev pub Words : List ℕ → Type 0
+Words l = (i : ℕ) → i < length l → getD l i 0 < 4294967296
+
+-- a squared distance is within the limit
+abbrev pub within : ℕ → ℕ → Bool
+within limit d = leb d limit
+
+abbrev pub countWithin : ℕ → List ℕ → ℕ
+countWithin limit l = count (within limit) l
+
+-- the places below n that pass a test, ascending
+unfoldable pub placesOf : (ℕ → Bool) → ℕ → List ℕ
+placesOf t zero = []
+placesOf t (suc n) = placesOf t n ++ cond (t n) (n ∷ []) []
+
+-- the places of those within the limit
+abbrev pub placesWithin : ℕ → List ℕ → List ℕ
+placesWithin limit l = placesOf (λ i. within limit (getD l i 0)) (length l)
+
+-- these places are the first k of a list
+pub record HoldsPlaces (limit : ℕ) (l : List ℕ) (k : ℕ) (at : List ℕ) : Type 0 where
+  pub count : k ≡ length (placesWithin limit l)
+  pub places : take k at ≡ placesWithin limit l
+
+-- how many points the choice goes by where k of n are within R0: five, or those within R0, or eleven; all where they are fewer
+abbrev pub needed : ℕ → ℕ → ℕ
+needed k n = min (max 5 (min k 11)) n
