@@ -4,7 +4,7 @@ import re
 import sys
 
 # crates below these may ask something of their callers
-CALLED = ('survey_file', 'survey', 'grid', 'grid_program', 'history')
+CALLED = ('survey_file', 'survey', 'many_lookups', 'grid', 'grid_program', 'history', 'shepard')
 
 faults = []
 for crate in CALLED:

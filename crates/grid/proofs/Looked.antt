@@ -2,15 +2,11 @@
 use mathlib.Core.Path.{_≡_, _∙_}
 use mathlib.Core.Bool.{true}
 use Prim.Native.Nat.{ℕ, _<_}
-use native.Mathlib.Omega.{arith}
-use lib.IntN.{ℤ}
 use lib.ListN.{length}
 use Rattle.model.specs.Point.{Location, State}
-use Rattle.model.specs.Answer.{answer}
 use Rattle.model.specs.Grid.{Grid, proper, cellLocation}
 use Rattle.laws.proofs.GridLaws.{cell-accepted}
 use Rattle.survey.specs.declared.Answer.{Answer}
-use Rattle.survey.specs.declared.Answer.the-variants.{Found, Refused}
 use Rattle.survey.specs.Answers.{found, lookedUp, Rounded}
 use Rattle.survey.proofs.Looking.{looked-up}
 use Rattle.grid.proofs.Rows.{CellRight}
@@ -24,10 +20,3 @@ module _ (s : State) (g : Grid) (c r : ℕ) (rules : proper g ≡ true) (some : 
   cell-found q h =
       let here = h .0 ∙ looked-up s (p .x) (p .y) (cell-accepted s g c r rules some hc hr) in
       (here, rw here at (h .1))
-
-module _ (s : State) (p : Location) (q : Answer) (here : q ≡ found s p) where
-  pub finds : (a : ℤ) (n k : ℕ) → q ≡ Found a n k → a ≡ answer s p
-  finds a n k f = cc
-
-  pub not-refused : (n : ℕ) → q ≡ Refused n → ⊥
-  not-refused n f = let z : _≡_ {A = ℕ} 0 1 = cc in absurd (omega arith)

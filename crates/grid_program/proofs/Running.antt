@@ -7,17 +7,11 @@ use lib.ListN.{length, take, getD}
 use lib.Seq.{getD-take}
 use Rattle.model.specs.Point.{State}
 use Rattle.model.specs.SurveyFile.{fileRefusal, filePoints, recordStart}
-use Rattle.model.specs.Calls.{Load, refusal, accepted}
 use Rattle.model.specs.Grid.{Grid}
 use Rattle.model.specs.GridFile.{gridFile, gridFileRefusal, gridFileInto}
 use Rattle.model.specs.Program.{gridIn, stateIn, programRefusal, refusedText}
-use Rattle.laws.proofs.CallLaws.{after-accepted}
 use Rattle.laws.proofs.GridLaws.{room-enough}
 use Rattle.laws.proofs.ProgramLaws.{grid-decides, preamble-length, refused-output, file-output}
-use Rattle.survey.specs.declared.Survey.{Survey}
-use Rattle.survey.specs.declared.Reply.{Reply}
-use Rattle.survey.specs.Held.{stateOf}
-use Rattle.survey.specs.Replies.{Replies}
 use Rattle.survey_file.specs.declared.Written.{Written}
 use Rattle.survey_file.specs.declared.Written.the-variants.{Length, Refused}
 use Rattle.grid.specs.Outcome.{CellsRight, writtenAs, WrittenRight}
@@ -45,14 +39,6 @@ six-first f =
     )
 
 module _ (f : List ℕ) where
-  pub load-number : (s : Survey) (r : Reply) → Replies (Load f) s r → r .refusal ≡ fileRefusal f
-  unfolding refusal
-  load-number s r h = h .number
-
-  pub load-state : (s : Survey) (r : Reply) → Replies (Load f) s r → fileRefusal f ≡ 0 → stateOf (r .survey) ≡ stateIn f
-  unfolding refusal accepted
-  load-state s r h e = h .state ∙ after-accepted (Load f) (stateOf s) e
-
   module _ (r : Output) where
     pub ends-refused : (n : ℕ) → Puts (refusedText n) r → programRefusal f ≡ n → (n ≡ 0 → ⊥) → RunsAs f r
     ends-refused n p e h =

@@ -4,7 +4,7 @@ use Prim.Native.Nat.{ℕ, zero, suc, _+_, _-_, _*_, _≤_, _<_}
 use native.Mathlib.Nat.{mul-le-mul, mul-le-mul-left, mul-le-mul-right}
 use native.Mathlib.Omega.{arith}
 use mathlib.Core.Bool.{Bool, true, false, cond, _&&_, and-eq-true-iff}
-use mathlib.Core.List.{List, [], _∷_, flatMap}
+use mathlib.Core.List.{List}
 use lib.Dec.{ltb, leb, eqb}
 use lib.IntN.{ℤ}
 use lib.ListN.{length, length-append}
@@ -13,8 +13,8 @@ use Rattle.model.specs.Point.{State}
 use Rattle.model.specs.Answer.{answer}
 use Rattle.model.specs.Calls.{Lookup, refusal, nonEmpty, enough}
 use Rattle.model.specs.Grid.{Grid, axis, proper, cellCount, gridCheck, cellLocation, row, rowsOf, cells}
-use Rattle.model.specs.GridFile.{cellsBytes, gridTrailer, fileOfCells, gridFile, gridFileLength, gridFileRefusal}
-use Rattle.laws.proofs.ListLaws.{length-tabulate}
+use Rattle.model.specs.GridFile.{cellBytes, cellsBytes, gridTrailer, fileOfCells, gridFile, gridFileLength, gridFileRefusal}
+use Rattle.laws.proofs.ListLaws.{length-tabulate, length-flatMap}
 use Rattle.laws.proofs.Tests.{cond-zero, cond-sound}
 
 -- what a grid keeps to along an axis that keeps the rules
@@ -69,9 +69,8 @@ module _ (s : State) (g : Grid) where
   length-cells = length-rows (g .rows)
 
 pub length-cells-bytes : (l : List ℤ) → length (cellsBytes l) ≡ 2 * length l
-unfolding cellsBytes flatMap
-length-cells-bytes [] = refl
-length-cells-bytes (a ∷ l) = omega (arith, length-cells-bytes l)
+unfolding cellsBytes
+length-cells-bytes l = length-flatMap cellBytes 2 (λ _. refl) l
 
 length-file-of-cells : (g : Grid) (l : List ℤ) → length (fileOfCells g l) ≡ 2 * length l + 20
 unfolding fileOfCells

@@ -1,10 +1,12 @@
--- Laws of the words that specs/Lists has: facts of every element, carried over, joined, and of parts; tables; and a map to lists, joined.
+-- Laws of the words that specs/Lists has: facts of every element, carried over, joined, and of parts; tables; and a map to lists, joined and by the element.
 use mathlib.Core.Path.{_≡_, refl}
-use Prim.Native.Nat.{ℕ, zero, suc, _+_, _<_}
+use Prim.Native.Nat.{ℕ, zero, suc, _+_, _*_, _<_}
+use native.Mathlib.Nat.{mul-zero, mul-suc}
 use native.Mathlib.Numerals.{add-one}
 use native.Mathlib.Omega.{arith}
-use mathlib.Core.List.{List, [], _∷_, _++_, map, flatMap, append-assoc}
+use mathlib.Core.List.{List, [], _∷_, _++_, map, flatMap, append-assoc, append-nil}
 use lib.ListN.{length, take, drop, getD, length-append}
+use lib.Seq.{take-suc}
 use Rattle.model.specs.Lists.{tabulate, All, Pairs, Bytes}
 
 module _ {A : Type 0} where
@@ -105,6 +107,16 @@ module _ {A : Type 0} where
   unfolding flatMap
   flatMap-append f [] m = refl
   flatMap-append f (a ∷ l) m = rw (flatMap-append f l m, append-assoc)
+
+  pub flatMap-more : {B : Type 0} (f : A → List B) (l : List A) (i : ℕ) (z : A) → i < length l → flatMap f (take (i + 1) l) ≡ flatMap f (take i l) ++ f (getD l i z)
+  unfolding flatMap
+  flatMap-more f l i z h = rw (add-one i, take-suc l i z h, flatMap-append, append-nil)
+
+  -- where f gives k elements of each
+  pub length-flatMap : {B : Type 0} (f : A → List B) (k : ℕ) → ((a : A) → length (f a) ≡ k) → (l : List A) → length (flatMap f l) ≡ k * length l
+  unfolding flatMap
+  length-flatMap f k each [] = rw mul-zero
+  length-flatMap f k each (a ∷ l) = rw (mul-suc) (omega (arith, length-append (f a) (flatMap f l), each a, length-flatMap f k each l))
 
 pub byte-at : (l : List ℕ) (i : ℕ) → Bytes l → getD l i 0 < 256
 byte-at l i h = all-at (λ b. b < 256) l i 0 (omega arith) h

@@ -18,3 +18,7 @@ elsewhere x y a = not (at x y a)
 -- a point at the location does not come before this one
 abbrev pub notAfter : ℕ → ℕ → Point → Bool
 notAfter x y a = not (precedes (point x y (pos 0)) a)
+
+-- what a search passes: where `behind`, the points that a point at the location does not come before, and otherwise those elsewhere
+unfoldable pub passes : Bool → ℕ → ℕ → Point → Bool
+passes behind x y = cond behind (notAfter x y) (elsewhere x y)

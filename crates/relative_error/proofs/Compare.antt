@@ -1,10 +1,10 @@
 -- Comparing floats that are not negative is comparing the fractions that they equal.
 use mathlib.Core.Path.{_≡_, refl, sym, ap, _∙_}
-use mathlib.Core.Bool.{Bool, true, false, _&&_, _||_}
+use mathlib.Core.Bool.{Bool, true, false, not, _&&_, _||_, false≢true}
 use Prim.Native.Nat.{ℕ, _*_, _≤_, _<_}
 use native.Mathlib.Nat.{le-of-lt, le-of-eq, mul-one}
 use lib.Dec.{T, leb, ltb, eqb, leb→le, le→leb, ltb→lt, eqb→eq, lit<}
-use lib.Ieee.{Float, nan, inf, fin, le}
+use lib.Ieee.{Float, nan, inf, fin, le, isNan}
 use lib.Ieee.Exact.{HasValue}
 use lib.Ieee.Order.{transfer, le-of-values}
 use lib.Ieee.Positive.{num, den, den-pos, value→cross}
@@ -12,6 +12,15 @@ use Rattle.model.specs.Computed.{float}
 use Rattle.relative_error.specs.Close.{plain}
 use Rattle.relative_error.proofs.Laws.{int-value}
 use Rattle.relative_error.proofs.Rounding.{plain-of-value}
+
+-- a float that compares with another is no NaN
+pub compared : (x y : Float) → le x y ≡ true → T (not (isNan y))
+unfolding le isNan
+compared nan nan h = absurd (false≢true h)
+compared (inf s) nan h = absurd (false≢true h)
+compared (fin s m e) nan h = absurd (false≢true h)
+compared x (inf s) h = tt
+compared x (fin s m e) h = tt
 
 -- two tests that hold together
 same-test : (s t : Bool) → (T s → T t) → (T t → T s) → s ≡ t

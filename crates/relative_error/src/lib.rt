@@ -43,12 +43,12 @@ fn searched(y: f64) -> u64
 }
 
 // A number to try first: the last digit of y - 1/2 + 2⁵² counts 1, so that its last digits are mostly the whole part of y. Nothing rests on it.
-fn guess(y: f64) -> u64
-    ensures { λ k. ⌜ k < 4194304 ⌝ }
+pub fn guess(y: f64) -> u64
+    ensures { λ k. ⌜ k < 33554432 ⌝ }
 {
     let t = y - 0.5 + 4503599627370496.0;
     if 0.0 <= t {
-        return f64::to_bits(t) % 4194304;
+        return f64::to_bits(t) % 33554432;
     }
     0
 }

@@ -6,12 +6,12 @@ ghost use Rattle.model.specs.Distance.{root, distanceOf};
 ghost use Rattle.model.specs.Radius.{radiusOf};
 
 // The greatest whole number whose square does not exceed n, one bit at a time from the highest that it can have.
-fn root_in(n: u64, bits: u64) -> u64
-    requires { ⌜ (bits ≤ 25) × (n < 2 ^ bits * 2 ^ bits) ⌝ }
+fn searched(n: u64) -> u64
+    requires { ⌜ n < 2 ^ 50 ⌝ }
     ensures { λ r. ⌜ (r ≡ root n) × (r < 2 ^ 25) ⌝ }
 {
     let mut r: u64 = 0;
-    let mut k = bits;
+    let mut k: u64 = 25;
     let d = loop {
         if k == 0 {
             break r;
@@ -25,15 +25,35 @@ fn root_in(n: u64, bits: u64) -> u64
     d
 }
 
-// The same of every n below 2⁵⁰. A distance in the domain has 21 bits: the others need not be tried.
+// A number to try first: three of Newton's steps from a float that has half of n's exponent. Nothing rests on it.
+// n as a float is 2⁵² + n less 2⁵²: a conversion would wait for the root before.
+fn guess(n: u64) -> u64
+    requires { ⌜ n < 2 ^ 50 ⌝ }
+    ensures { λ r. ⌜ r < 33554432 ⌝ }
+{
+    let x = f64::from_bits(4841369599423283200 + n) - 4503599627370496.0;
+    if 0.0 <= x {
+        let a = f64::from_bits(f64::to_bits(x) % 9223372036854775808 / 2 + 2303489773699701532);
+        let b = 0.5 * (a + x / a);
+        let c = 0.5 * (b + x / b);
+        let d = 0.5 * (c + x / c);
+        return relative_error::guess(d + 0.0000001);
+    }
+    0
+}
+
+// The same of every n below 2⁵⁰: the guess where comparing bears it out, and otherwise by a search.
 pub fn root_of(n: u64) -> u64
     requires { ⌜ n < 2 ^ 50 ⌝ }
     ensures { λ r. ⌜ (r ≡ root n) × (r < 2 ^ 25) ⌝ }
 {
-    if n < 4398046511104 {
-        return root_in(n, 21);
+    let r = guess(n);
+    if r * r <= n {
+        if n < (r + 1) * (r + 1) {
+            return r;
+        }
     }
-    root_in(n, 25)
+    searched(n)
 }
 
 // D of a squared distance.

@@ -2,6 +2,7 @@
 use mathlib.Core.Path.{_≡_, sym, _∙_}
 use Prim.Native.Nat.{ℕ, _<_}
 use native.Mathlib.Omega.{arith}
+use lib.IntN.{ℤ}
 use lib.ListN.{length}
 use borrow.Author.Tests.{eq-eqb, ne-eqb}
 use Rattle.model.specs.Point.{State, location}
@@ -68,3 +69,11 @@ module _ (s : State) (x y : ℕ) where
       fits = omega (arith, listed .size, neighbours-accepted x y lent s e .1);
       list = λ list k. rw (listed .items, k, eq-eqb (refusal (LookupNeighbours x y lent) s) 0 e);
     }
+
+-- what is found is one answer, and no refusal
+module _ {q : Answer} {a : ℤ} {n r : ℕ} (here : q ≡ Found a n r) where
+  pub one-answer : {b : ℤ} {m k : ℕ} → q ≡ Found b m k → b ≡ a
+  one-answer f = cc
+
+  pub not-refused : {m : ℕ} → q ≡ Refused m → ⊥
+  not-refused f = let z : _≡_ {A = ℕ} 0 1 = cc in absurd (omega arith)

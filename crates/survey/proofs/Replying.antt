@@ -1,7 +1,10 @@
 -- How a reply is put together: of a refused call from the survey that came in, of an accepted one from what it leaves.
 use mathlib.Core.Path.{_≡_, sym, ap, _∙_}
 use Prim.Native.Nat.{ℕ}
-use Rattle.model.specs.Calls.{Call, refusal, accepted}
+use mathlib.Core.List.{List}
+use Rattle.model.specs.SurveyFile.{fileRefusal}
+use Rattle.model.specs.Calls.{Call, Load, refusal, accepted}
+use Rattle.model.specs.Program.{stateIn}
 use Rattle.laws.proofs.CallLaws.{after-accepted, after-refused}
 use Rattle.survey.specs.declared.Survey.{Survey}
 use Rattle.survey.specs.declared.Reply.{Reply}
@@ -28,3 +31,13 @@ module _ (c : Call) (s : Survey) where
         unaltered = λ f. absurd (f k);
         plain = p;
       }
+
+-- a file that was read
+module _ (f : List ℕ) (s : Survey) (r : Reply) (h : Replies (Load f) s r) where
+  pub load-number : r .refusal ≡ fileRefusal f
+  unfolding refusal
+  load-number = h .number
+
+  pub load-state : r .refusal ≡ 0 → stateOf (r .survey) ≡ stateIn f
+  unfolding refusal accepted
+  load-state e = h .state ∙ after-accepted (Load f) (stateOf s) (sym (h .number) ∙ e)

@@ -10,13 +10,14 @@ use mir.Val.{SFits}
 use mir.Facts.{toZ-ofZ}
 use borrow.Author.Needs.{needs}
 use Rattle.model.specs.Lists.{tabulate}
-use Rattle.model.specs.Grid.{cellLocation, row}
+use Rattle.model.specs.Grid.{row}
 use Rattle.laws.proofs.Tests.{below-more}
 use Rattle.laws.proofs.GridLaws.{proper-axes}
 use Rattle.survey.specs.Held.{stateOf}
 use Rattle.grid_rules.specs.Held.{gridOf}
 use Rattle.grid.proofs.Rows.{cellAt, CellRight, cell-more}
-use Rattle.grid.proofs.Looked.{cell-found, finds, not-refused}
+use Rattle.survey.proofs.Looking.{one-answer, not-refused}
+use Rattle.grid.proofs.Looked.{cell-found}
 use Rattle.grid.proofs.fill_row.Statement.{statement}
 use Rattle.grid.proofs.fill_row.Tie as tie
 
@@ -56,7 +57,7 @@ returns c =
     let s = stateOf (a .s) in
     let g = gridOf (a .g) in
     let here = cell-found s g (l .c) (a .r) (b .pre .0) (b .pre .1) (omega arith) (b .pre .2) (q .look .result) (q .look .ensures) in
-    absurd (not-refused s (cellLocation g (l .c) (a .r)) (q .look .result) (here .0) _ (c .enum-told .given .1))
+    absurd (not-refused (here .0) (c .enum-told .given .1))
 
 mul-answer : tie.Need-mul-answer Inv-loop μ-loop
 mul-answer c = search needs
@@ -81,7 +82,7 @@ loop-again c =
     let here = cell-found s g (l .c) (a .r) (b .pre .0) (b .pre .1) (omega arith) (b .pre .2) (q .look .result) (q .look .ensures) in
     let v = c .before .found .given in
     let f : SFits w16 (v .0 .0) = search needs in
-    let e = finds s (cellLocation g (l .c) (a .r)) (q .look .result) (here .0) (v .0 .0) (v .0 .1 .0) (v .0 .1 .1 .0) (v .1) in (
+    let e = one-answer (here .0) (v .1) in (
       simp length-set (omega arith),
       simp length-set (omega arith),
       rw (toZ-ofZ f, e) (cell-more s g (a .r) (l .c) (l .out) (omega arith) (l .inv .2)),

@@ -6,7 +6,8 @@ use borrow.Author.Needs.{needs}
 use Rattle.laws.proofs.ProgramLaws.{file-decides, preamble-decides}
 use Rattle.survey.specs.Held.{stateOf}
 use Rattle.grid_rules.specs.Held.{gridOf}
-use Rattle.grid_program.proofs.Running.{load-number, load-state, ends-refused, preamble-short, preamble-long, six-first, grid-refused, grid-written}
+use Rattle.survey.proofs.Replying.{load-number, load-state}
+use Rattle.grid_program.proofs.Running.{ends-refused, preamble-short, preamble-long, six-first, grid-refused, grid-written}
 use Rattle.grid_program.proofs.run.Statement.{statement}
 use Rattle.grid_program.proofs.run.Tie as tie
 
@@ -49,7 +50,7 @@ returns-2 c =
     let f = l .before .before .before .args .input .now in
     let no = load-number f (l .before .fresh .result) (l .load .result) (l .load .ensures) in
     let e = sym no ∙ n .before .before .if1 .left in
-    let state = load-state f (l .before .fresh .result) (l .load .result) (l .load .ensures) e in
+    let state = load-state f (l .before .fresh .result) (l .load .result) (l .load .ensures) (n .before .before .if1 .left) in
     let short = preamble-short f e (stateOf (l .load .result .survey)) state (n .count .result) (n .count .ensures .0) (omega arith) in
     ends-refused f _ 7 (c .refused2 .ensures) (preamble-decides f e short) (omega arith)
 
@@ -92,7 +93,7 @@ returns-3 c =
     let no = load-number f (l .before .fresh .result) (l .load .result) (l .load .ensures) in
     let e = sym no ∙ n .before .before .if1 .left in
     let s = stateOf (l .load .result .survey) in
-    let state = load-state f (l .before .fresh .result) (l .load .result) (l .load .ensures) e in
+    let state = load-state f (l .before .fresh .result) (l .load .result) (l .load .ensures) (n .before .before .if1 .left) in
     let long = preamble-long f e s state (n .count .result) (n .count .ensures .0) (omega arith) in
     let d = w .before .before .blank in
     let g = w .before .before .before .grid-of in
@@ -108,7 +109,7 @@ returns-4 c =
     let no = load-number f (l .before .fresh .result) (l .load .result) (l .load .ensures) in
     let e = sym no ∙ n .before .before .if1 .left in
     let s = stateOf (l .load .result .survey) in
-    let state = load-state f (l .before .fresh .result) (l .load .result) (l .load .ensures) e in
+    let state = load-state f (l .before .fresh .result) (l .load .result) (l .load .ensures) (n .before .before .if1 .left) in
     let long = preamble-long f e s state (n .count .result) (n .count .ensures .0) (omega arith) in
     let d = w .before .before .blank in
     let g = w .before .before .before .grid-of in

@@ -1,94 +1,15 @@
--- `rank` meets its contract: the location comes before none of the points passed, whatever their values, and before the one that it stops at.
-use mathlib.Core.Path.{_≡_, sym, ap, _∙_}
-use Prim.Native.Nat.{_-_, _≤_, min}
-use native.Mathlib.Omega.{arith}
-use mathlib.Core.Bool.{not}
-use Rattle.locate.specs.Leading.{notAfter}
-use Rattle.locate.proofs.SearchLaws.{Searched, search-start, search-more, search-stop, search-end}
+-- `rank` meets its contract: the points passed are those that the location does not come before.
+use borrow.Author.Needs.{needs}
+use Rattle.locate.specs.Leading.{passes}
 use Rattle.locate.proofs.rank.Statement.{statement}
 use Rattle.locate.proofs.rank.Tie as tie
 
-abbrev Inv-loop : tie.InvT-loop
-Inv-loop xs ys n x y m i₀ i = (m ≡ min n 256) × (i ≤ m) × Searched (notAfter x y) xs ys n i
+search-requires : tie.Need-search-requires
+search-requires c κs = search needs
 
-abbrev μ-loop : tie.MeasureT-loop
-μ-loop xs ys n x y m i₀ i = m - i
-
-clamped-requires : tie.Need-clamped-requires Inv-loop μ-loop
-clamped-requires c κs = tt
-
-loop-holds : tie.Need-loop-holds Inv-loop μ-loop
-loop-holds c =
-    let a = c .before .args in
-    (c .clamped .ensures, omega arith, search-start (notAfter (a .x) (a .y)) (a .xs .now) (a .ys .now) (a .n))
-
-mul-coordinate : tie.Need-mul-coordinate Inv-loop μ-loop
-mul-coordinate c = omega arith
-
-element-copy-out-coordinate : tie.Need-element-copy-out-coordinate Inv-loop μ-loop
-element-copy-out-coordinate c = omega arith
-
-coordinate-requires : tie.Need-coordinate-requires Inv-loop μ-loop
-coordinate-requires c κs = tt
-
-mul-coordinate-2 : tie.Need-mul-coordinate-2 Inv-loop μ-loop
-mul-coordinate-2 c = omega arith
-
-element-copy-out-coordinate-2 : tie.Need-element-copy-out-coordinate-2 Inv-loop μ-loop
-element-copy-out-coordinate-2 c = omega arith
-
-coordinate-requires-2 : tie.Need-coordinate-requires-2 Inv-loop μ-loop
-coordinate-requires-2 c κs = tt
-
-comes-before-requires : tie.Need-comes-before-requires Inv-loop μ-loop
-comes-before-requires c κs = tt
-
-returns : tie.Need-returns Inv-loop μ-loop
-returns c =
-    let l = c .before .before .before .before .before .before .before in
-    let a = l .before .before .args in
-    search-stop (notAfter (a .x) (a .y)) (a .xs .now) (a .ys .now) (a .n) (l .loop .i) (omega arith) (l .loop .inv .2)
-    (λ z. ap not (rw (c .before .before .before .before .coordinate .ensures, c .before .before .coordinate2 .ensures) at (sym (c .before .comes-before .ensures z)) ∙ c .if1 .taken))
-
-add-i : tie.Need-add-i Inv-loop μ-loop
-add-i c = omega arith
-
-loop-less : tie.Need-loop-less Inv-loop μ-loop
-loop-less c = omega arith
-
-loop-again : tie.Need-loop-again Inv-loop μ-loop
-loop-again c =
-    let l = c .before .before .before .before .before .before .before in
-    let a = l .before .before .args in (
-      l .loop .inv .0,
-      omega arith,
-      search-more (notAfter (a .x) (a .y)) (a .xs .now) (a .ys .now) (a .n) (l .loop .i) (omega arith) (l .loop .inv .2)
-          (λ z. ap not (rw (c .before .before .before .before .coordinate .ensures, c .before .before .coordinate2 .ensures) at (sym (c .before .comes-before .ensures z)) ∙ c .if1 .left)),
-    )
-
-returns-2 : tie.Need-returns-2 Inv-loop μ-loop
-returns-2 c =
-    let l = c .before in
-    let a = l .before .before .args in
-    search-end (notAfter (a .x) (a .y)) (a .xs .now) (a .ys .now) (a .n) (l .loop .i) (omega arith) (l .loop .inv .2)
+returns : tie.Need-returns
+unfolding passes
+returns c = c .search .ensures
 
 pub rank-spec : {M : Type 1} → statement M
-rank-spec =
-    tie.close
-    (tie.spec
-    Inv-loop
-    μ-loop
-    clamped-requires
-    loop-holds
-    mul-coordinate
-    element-copy-out-coordinate
-    coordinate-requires
-    mul-coordinate-2
-    element-copy-out-coordinate-2
-    coordinate-requires-2
-    comes-before-requires
-    returns
-    add-i
-    loop-less
-    loop-again
-    returns-2)
+rank-spec = tie.close (tie.spec search-requires returns)

@@ -1,6 +1,6 @@
 -- `whole_part` meets its contract: a guess that y reaches, and the next number not, is the whole part.
 use mathlib.Core.Path.{sym, _∙_}
-use native.Mathlib.Nat.{div-eq-of-lt-le}
+use native.Mathlib.Nat.{div-eq-of-lt-le, lt-of-le-of-lt, lt-of-mul-lt-mul-right}
 use borrow.Author.Needs.{needs}
 use borrow.Author.Tests.{leb-true, leb-false, not-true}
 use lib.Ieee.Positive.{den}
@@ -24,7 +24,8 @@ returns c =
     let g = c .before .before .before .before in
     let low = leb-true _ _ (sym (c .before .before .before .at-most .ensures) ∙ c .before .before .if1 .taken) in
     let high = leb-false _ _ (sym (c .before .at-most2 .ensures) ∙ not-true _ (c .if2 .taken)) in
-    (sym (div-eq-of-lt-le (den (g .before .args .y)) low high), g .guess .ensures)
+    let d = den (g .before .args .y) in
+    (sym (div-eq-of-lt-le d low high), lt-of-mul-lt-mul-right d (lt-of-le-of-lt low (g .before .pre .1)))
 
 searched-requires : tie.Need-searched-requires
 searched-requires c κs = search needs

@@ -1,17 +1,17 @@
--- `root_in` meets its contract. The invariant: r² ≤ n < (r + 2^k)², and r + 2^k does not exceed 2^25.
+-- `searched` meets its contract. The invariant: r² ≤ n < (r + 2^k)², and r + 2^k does not exceed 2^25.
 use mathlib.Core.Path.{_≡_, refl}
 use Prim.Native.Nat.{ℕ, zero, suc, _+_, _-_, _*_, _%_, _^_, _≤_, _<_}
 use native.Mathlib.Nat.{pow-le-pow-right, mul-le-mul}
 use native.Mathlib.Omega.{arith}
 use Rattle.laws.proofs.RootLaws.{is-root}
-use Rattle.root.proofs.root_in.Statement.{statement}
-use Rattle.root.proofs.root_in.Tie as tie
+use Rattle.root.proofs.searched.Statement.{statement}
+use Rattle.root.proofs.searched.Tie as tie
 
 abbrev Inv-loop : tie.InvT-loop
-Inv-loop n bits r₀ k₀ r k = (k ≤ 25) × (r * r ≤ n) × (n < (r + 2 ^ k) * (r + 2 ^ k)) × (r + 2 ^ k ≤ 2 ^ 25)
+Inv-loop n r₀ k₀ r k = (k ≤ 25) × (r * r ≤ n) × (n < (r + 2 ^ k) * (r + 2 ^ k)) × (r + 2 ^ k ≤ 2 ^ 25)
 
 abbrev μ-loop : tie.MeasureT-loop
-μ-loop n bits r₀ k₀ r k = k
+μ-loop n r₀ k₀ r k = k
 
 -- the bit that is tried, where k bits are left
 record Bit (k p : ℕ) : Type 0 where
@@ -34,9 +34,7 @@ small-square : (r p : ℕ) → r + p ≤ 2 ^ 25 → (r + p) * (r + p) ≤ 2 ^ 50
 small-square r p h = mul-le-mul h h
 
 loop-holds : tie.Need-loop-holds Inv-loop μ-loop
-loop-holds c =
-    let h : 2 ^ c .args .bits ≤ 2 ^ 25 = pow-le-pow-right (omega arith) (c .pre .0) in
-    omega arith
+loop-holds c = omega arith
 
 sub-k : tie.Need-sub-k Inv-loop μ-loop
 sub-k c = omega arith
@@ -78,8 +76,8 @@ returns c =
     let e : 2 ^ c .before .loop .k ≡ 1 = rw (c .if1 .taken) in
     (is-root (record { low = c .before .loop .inv .1; high = rw (c .if1 .taken) at (c .before .loop .inv .2) }), omega arith)
 
-pub root-in-spec : {M : Type 1} → statement M
-root-in-spec =
+pub searched-spec : {M : Type 1} → statement M
+searched-spec =
     tie.close
     (tie.spec
     Inv-loop

@@ -1,0 +1,225 @@
+/* The proved library beside the plain C reference, in one process: whether they agree, and how long each takes.
+ *
+ *   bench agree SURVEYS    random surveys: the same answer, count and radius from each, at 256 locations of each survey
+ *   bench time ROUNDS      the table: nanoseconds a lookup, milliseconds a grid of 64 by 64; the best of ROUNDS, the variants in turn
+ */
+#include "reference.h"
+#include "shepard.h"
+#include <stdio.h>
+#include <stdlib.h>
+#include <time.h>
+
+/* ---- Random surveys (splitmix64) ---- */
+
+static uint64_t seed;
+
+static uint32_t draw(uint32_t below) {
+    uint64_t v = (seed += 0x9e3779b97f4a7c15u);
+    v = (v ^ v >> 30) * 0xbf58476d1ce4e5b9u;
+    v = (v ^ v >> 27) * 0x94d049bb133111ebu;
+    return (uint32_t)(((v ^ v >> 31) >> 32) * below >> 32);
+}
+
+enum Shape { UNIFORM, DIAGONAL, TIGHT }; /* over the domain; along x = y; within 32 by 32 */
+
+static int ascending(const void *a, const void *b) {
+    uint32_t l = *(const uint32_t *)a, r = *(const uint32_t *)b;
+    return (l > r) - (l < r);
+}
+
+static void survey_draw(Survey *s, int n, enum Shape shape) {
+    uint32_t location[MAX_POINTS];
+    memset(s, 0, sizeof *s);
+    for (int i = 0; i < n;) {
+        uint32_t x = draw(shape == TIGHT ? 32 : DOMAIN), y = draw(shape == TIGHT ? 32 : DOMAIN);
+        if (shape == DIAGONAL) y = (x + y / 16) & (DOMAIN - 1);
+        uint32_t p = x << 16 | y;
+        int taken = 0;
+        for (int j = 0; j < i; j++) taken |= location[j] == p;
+        if (!taken) location[i++] = p;
+    }
+    qsort(location, (size_t)n, sizeof *location, ascending);
+    for (int i = 0; i < n; i++) {
+        s->x[i] = (uint16_t)(location[i] >> 16);
+        s->y[i] = (uint16_t)(location[i] & 0xffff);
+        s->z[i] = (int8_t)((int)draw(256) - 128);
+    }
+    s->count = (uint16_t)n;
+}
+
+/* ---- Bytes, high byte first ---- */
+
+static unsigned get2(const uint8_t *b) { return (unsigned)b[0] << 8 | b[1]; }
+static uint32_t get4(const uint8_t *b) { return (uint32_t)get2(b) << 16 | get2(b + 2); }
+static void put2(uint8_t *b, unsigned v) { b[0] = (uint8_t)(v >> 8); b[1] = (uint8_t)v; }
+
+typedef struct { uint8_t bytes[5 * MAX_POINTS + 12]; size_t length; } File;
+
+static void file_of(const Survey *s, File *f) {
+    unsigned sum = 0, n = s->count;
+    for (unsigned i = 0; i < n; i++) {
+        uint8_t *b = f->bytes + 5 * i;
+        put2(b, s->x[i]);
+        put2(b + 2, s->y[i]);
+        b[4] = (uint8_t)s->z[i];
+        for (int j = 0; j < 5; j++) sum += b[j];
+    }
+    uint8_t *trailer = f->bytes + 5 * n;
+    put2(trailer, n);
+    put2(trailer + 2, 0);
+    put2(trailer + 4, 5 * n);
+    put2(trailer + 6, sum & 0xffff);
+    memcpy(trailer + 8, "RLS1", 4);
+    f->length = 5 * n + 12;
+}
+
+/* ---- The variants: all the locations in one call ---- */
+
+enum { LOCATIONS = MAX_SIDE * MAX_SIDE };
+
+typedef struct { uint16_t x[LOCATIONS], y[LOCATIONS]; int count; } Locations;
+typedef void Lookups(const Survey *, const File *, const Locations *, Answer *);
+
+static void form(const Survey *s, const File *f, const Locations *l, Answer *out) {
+    (void)f;
+    for (int i = 0; i < l->count; i++) out[i] = lookup_form(*s, l->x[i], l->y[i]);
+}
+
+static void rank_form(const Survey *s, const File *f, const Locations *l, Answer *out) {
+    (void)f;
+    for (int i = 0; i < l->count; i++) out[i] = lookup_rank_form(*s, l->x[i], l->y[i]);
+}
+
+/* The library reads the file once and answers every location. */
+static void proved(const Survey *s, const File *f, const Locations *l, Answer *out) {
+    (void)s;
+    static uint8_t in[4 * LOCATIONS], found[8 * LOCATIONS];
+    for (int i = 0; i < l->count; i++) {
+        put2(in + 4 * i, l->x[i]);
+        put2(in + 4 * i + 2, l->y[i]);
+    }
+    if (shepard_lookup_many(f->bytes, f->length, in, 4 * (size_t)l->count, found, sizeof found) != 0) exit(1);
+    for (int i = 0; i < l->count; i++)
+        out[i] = (Answer){(int16_t)get2(found + 8 * i), (uint16_t)get2(found + 8 * i + 2), get4(found + 8 * i + 4)};
+}
+
+/* A grid of 64 by 64 over the whole domain, as a grid file. */
+static void proved_grid(const File *f) {
+    static uint8_t out[2 * LOCATIONS + 20];
+    size_t length;
+    if (shepard_grid_file(f->bytes, f->length, 0, 0, 65, 65, MAX_SIDE, MAX_SIDE, out, sizeof out, &length) != 0) exit(1);
+}
+
+static void grid_locations(Locations *l) {
+    for (l->count = 0; l->count < LOCATIONS; l->count++) {
+        l->x[l->count] = (uint16_t)(65 * (l->count % MAX_SIDE));
+        l->y[l->count] = (uint16_t)(65 * (l->count / MAX_SIDE));
+    }
+}
+
+static void draw_locations(Locations *l, int n, uint32_t below) {
+    for (l->count = 0; l->count < n; l->count++) {
+        l->x[l->count] = (uint16_t)draw(below);
+        l->y[l->count] = (uint16_t)draw(below);
+    }
+}
+
+/* ---- Whether they agree ---- */
+
+static int agree(int surveys) {
+    static Answer a[LOCATIONS], b[LOCATIONS], c[LOCATIONS];
+    static Locations l;
+    long lookups = 0, differing = 0;
+    seed = 1;
+    for (int i = 0; i < surveys; i++) {
+        Survey s;
+        File f;
+        survey_draw(&s, 1 + (int)draw(MAX_POINTS), (enum Shape)(i % 3));
+        file_of(&s, &f);
+        draw_locations(&l, 256, i % 3 == TIGHT ? 40 : DOMAIN);
+        form(&s, &f, &l, a);
+        rank_form(&s, &f, &l, b);
+        proved(&s, &f, &l, c);
+        for (int j = 0; j < l.count; j++, lookups++)
+            differing += memcmp(&a[j], &b[j], sizeof *a) != 0 || memcmp(&a[j], &c[j], sizeof *a) != 0;
+    }
+    printf("agree: %ld lookups, %ld differ\n", lookups, differing);
+    return differing != 0;
+}
+
+/* ---- The table ---- */
+
+/* The process's own time, since the machine may be shared. */
+static double now(void) {
+    struct timespec t;
+    clock_gettime(CLOCK_PROCESS_CPUTIME_ID, &t);
+    return 1e9 * (double)t.tv_sec + (double)t.tv_nsec;
+}
+
+enum { CASES = 8, VARIANTS = 3 };
+
+static void best(double *least, double began) {
+    double t = now() - began;
+    if (t < *least) *least = t;
+}
+
+static void print_row(const char *name, double times[CASES][VARIANTS], int v) {
+    printf("%-22s", name);
+    for (int c = 0; c < CASES; c++) printf("%s%8.0f", c == 4 ? "  " : "", times[c][v] / LOCATIONS);
+    printf("\n");
+}
+
+static double lesser(double a, double b) { return a < b ? a : b; }
+
+static void times(int rounds) {
+    static const int counts[] = {5, 50, 200, 256};
+    static Lookups *const variants[VARIANTS] = {form, rank_form, proved};
+    static double least[CASES][VARIANTS], grid[2][2];
+    static Survey surveys[CASES];
+    static File files[CASES];
+    static Locations random, square;
+    static Answer out[LOCATIONS];
+    seed = 3;
+    for (int c = 0; c < CASES; c++) {
+        survey_draw(&surveys[c], counts[c % 4], c < 4 ? UNIFORM : DIAGONAL);
+        file_of(&surveys[c], &files[c]);
+        for (int v = 0; v < VARIANTS; v++) least[c][v] = 1e18;
+    }
+    for (int i = 0; i < 2; i++) grid[i][0] = grid[i][1] = 1e18;
+    draw_locations(&random, LOCATIONS, DOMAIN);
+    grid_locations(&square);
+    for (int r = 0; r < rounds; r++) {
+        for (int c = 0; c < CASES; c++)
+            for (int v = 0; v < VARIANTS; v++) {
+                double began = now();
+                variants[v](&surveys[c], &files[c], &random, out);
+                best(&least[c][v], began);
+            }
+        for (int i = 0; i < 2; i++) {
+            double began = now();
+            rank_form(&surveys[2 + 4 * i], &files[2 + 4 * i], &square, out);
+            best(&grid[i][0], began);
+            began = now();
+            proved_grid(&files[2 + 4 * i]);
+            best(&grid[i][1], began);
+        }
+    }
+    printf("ns a lookup; points: %7d%8d%8d%8d  %8d%8d%8d%8d\n", 5, 50, 200, 256, 5, 50, 200, 256);
+    printf("%-22s%8s%26s%8s\n", "", "uniform", "", "diagonal");
+    print_row("form", least, 0);
+    print_row("rank-form", least, 1);
+    print_row("proved", least, 2);
+    printf("%-22s", "proved / the lesser");
+    for (int c = 0; c < CASES; c++) printf("%s%8.2f", c == 4 ? "  " : "", least[c][2] / lesser(least[c][0], least[c][1]));
+    printf("\n\nms a grid of 64 by 64, 200 points    uniform  diagonal\n");
+    printf("rank-form                           %8.2f  %8.2f\n", grid[0][0] / 1e6, grid[1][0] / 1e6);
+    printf("proved, as a grid file              %8.2f  %8.2f\n", grid[0][1] / 1e6, grid[1][1] / 1e6);
+    printf("proved / rank-form                  %8.2f  %8.2f\n", grid[0][1] / grid[0][0], grid[1][1] / grid[1][0]);
+}
+
+int main(int argc, char **argv) {
+    if (argc == 3 && strcmp(argv[1], "agree") == 0) return agree(atoi(argv[2]));
+    if (argc == 3 && strcmp(argv[1], "time") == 0) return times(atoi(argv[2])), 0;
+    fprintf(stderr, "usage: bench agree SURVEYS | time ROUNDS\n");
+    return 2;
+}

@@ -1,0 +1,4 @@
+-- The definitions that the contracts of this crate cite.
+pub mod Refusals
+pub mod Locations
+pub mod Outcome

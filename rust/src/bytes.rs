@@ -1,0 +1,114 @@
+//! The library's functions on slices, each as the static library has it. A refused call leaves what it is lent as it was.
+use crate::{sys, Found, Grid, Refusal};
+
+fn unless(no: u8) -> Result<(), Refusal> {
+    if no == 0 {
+        Ok(())
+    } else {
+        Err(Refusal(no))
+    }
+}
+
+/// The file of a survey of no points to the front of `out`, and its length.
+pub fn fresh(out: &mut [u8]) -> Result<usize, Refusal> {
+    let mut length = 0;
+    // SAFETY: the pointer and the length are a slice's, and `length` is a number of our own.
+    unless(unsafe { sys::shepard_fresh(out.as_mut_ptr(), out.len(), &mut length) })?;
+    Ok(length)
+}
+
+/// How many points the file has.
+pub fn check(file: &[u8]) -> Result<usize, Refusal> {
+    let mut count = 0;
+    // SAFETY: as in `fresh`.
+    unless(unsafe { sys::shepard_check(file.as_ptr(), file.len(), &mut count) })?;
+    Ok(count)
+}
+
+/// The file of the same points without its preamble.
+pub fn rewrite(file: &[u8], out: &mut [u8]) -> Result<usize, Refusal> {
+    let mut length = 0;
+    // SAFETY: as in `fresh`; the two slices do not overlap, since one is borrowed `mut`.
+    unless(unsafe { sys::shepard_rewrite(file.as_ptr(), file.len(), out.as_mut_ptr(), out.len(), &mut length) })?;
+    Ok(length)
+}
+
+/// The file with one point more.
+pub fn add(file: &[u8], x: u32, y: u32, z: i32, out: &mut [u8]) -> Result<usize, Refusal> {
+    let mut length = 0;
+    // SAFETY: as in `rewrite`.
+    unless(unsafe { sys::shepard_add(file.as_ptr(), file.len(), x, y, z, out.as_mut_ptr(), out.len(), &mut length) })?;
+    Ok(length)
+}
+
+/// The file with another value at a location.
+pub fn change(file: &[u8], x: u32, y: u32, z: i32, out: &mut [u8]) -> Result<usize, Refusal> {
+    let mut length = 0;
+    // SAFETY: as in `rewrite`.
+    unless(unsafe { sys::shepard_change(file.as_ptr(), file.len(), x, y, z, out.as_mut_ptr(), out.len(), &mut length) })?;
+    Ok(length)
+}
+
+/// The file with a point taken out.
+pub fn drop(file: &[u8], x: u32, y: u32, out: &mut [u8]) -> Result<usize, Refusal> {
+    let mut length = 0;
+    // SAFETY: as in `rewrite`.
+    unless(unsafe { sys::shepard_drop(file.as_ptr(), file.len(), x, y, out.as_mut_ptr(), out.len(), &mut length) })?;
+    Ok(length)
+}
+
+/// The interpolated value at a location.
+pub fn lookup(file: &[u8], x: u32, y: u32) -> Result<Found, Refusal> {
+    let mut found = Found { answer: 0, count: 0, radius: 0 };
+    // SAFETY: as in `fresh`.
+    unless(unsafe { sys::shepard_lookup(file.as_ptr(), file.len(), x, y, &mut found.answer, &mut found.count, &mut found.radius) })?;
+    Ok(found)
+}
+
+/// The same, and the records of the chosen points, 10 bytes each, to the front of `records`, of which 100 bytes or more are lent.
+pub fn lookup_neighbours(file: &[u8], x: u32, y: u32, records: &mut [u8]) -> Result<Found, Refusal> {
+    let mut found = Found { answer: 0, count: 0, radius: 0 };
+    // SAFETY: as in `rewrite`.
+    unless(unsafe {
+        sys::shepard_lookup_neighbours(
+            file.as_ptr(),
+            file.len(),
+            x,
+            y,
+            records.as_mut_ptr(),
+            records.len(),
+            &mut found.answer,
+            &mut found.count,
+            &mut found.radius,
+        )
+    })?;
+    Ok(found)
+}
+
+/// Lookups at many locations, 4 bytes of `places` and 8 bytes of `out` each.
+pub fn lookup_many(file: &[u8], places: &[u8], out: &mut [u8]) -> Result<(), Refusal> {
+    // SAFETY: as in `rewrite`.
+    unless(unsafe { sys::shepard_lookup_many(file.as_ptr(), file.len(), places.as_ptr(), places.len(), out.as_mut_ptr(), out.len()) })
+}
+
+/// The grid file to the front of `out`, and its length.
+pub fn grid_file(file: &[u8], grid: &Grid, out: &mut [u8]) -> Result<usize, Refusal> {
+    let mut length = 0;
+    // SAFETY: as in `rewrite`.
+    unless(unsafe {
+        sys::shepard_grid_file(
+            file.as_ptr(),
+            file.len(),
+            grid.x0,
+            grid.y0,
+            grid.step_x,
+            grid.step_y,
+            grid.columns,
+            grid.rows,
+            out.as_mut_ptr(),
+            out.len(),
+            &mut length,
+        )
+    })?;
+    Ok(length)
+}

@@ -1,0 +1,122 @@
+//! A survey that owns its file's bytes.
+use crate::{bytes, Found, Grid, Kind, Neighbour, Refusal};
+
+/// Bytes of the longest file that is written.
+const FILE_MOST: usize = 5 * 256 + 12;
+
+/// At most 256 points, as the bytes of their file, which has no preamble.
+#[derive(Clone, Debug, PartialEq, Eq)]
+pub struct Survey {
+    file: Vec<u8>,
+}
+
+fn written(write: impl FnOnce(&mut [u8]) -> Result<usize, Refusal>) -> Result<Vec<u8>, Refusal> {
+    let mut out = vec![0; FILE_MOST];
+    let length = write(&mut out)?;
+    out.truncate(length);
+    Ok(out)
+}
+
+fn word(b: &[u8]) -> u16 {
+    u16::from_be_bytes([b[0], b[1]])
+}
+
+fn long(b: &[u8]) -> u32 {
+    u32::from_be_bytes([b[0], b[1], b[2], b[3]])
+}
+
+impl Survey {
+    /// A survey of no points.
+    pub fn new() -> Survey {
+        Survey { file: written(bytes::fresh).expect("there is room for every file") }
+    }
+
+    /// The survey of a file.
+    pub fn from_file(file: &[u8]) -> Result<Survey, Refusal> {
+        Ok(Survey { file: written(|out| bytes::rewrite(file, out))? })
+    }
+
+    /// The survey file's bytes.
+    pub fn as_file(&self) -> &[u8] {
+        &self.file
+    }
+
+    /// How many points are present.
+    pub fn count(&self) -> usize {
+        bytes::check(&self.file).expect("a survey holds an accepted file")
+    }
+
+    /// A new point.
+    pub fn add(&mut self, x: u32, y: u32, z: i32) -> Result<(), Refusal> {
+        self.file = written(|out| bytes::add(&self.file, x, y, z, out))?;
+        Ok(())
+    }
+
+    /// Another value at a location.
+    pub fn change(&mut self, x: u32, y: u32, z: i32) -> Result<(), Refusal> {
+        self.file = written(|out| bytes::change(&self.file, x, y, z, out))?;
+        Ok(())
+    }
+
+    /// A point taken out.
+    pub fn drop_point(&mut self, x: u32, y: u32) -> Result<(), Refusal> {
+        self.file = written(|out| bytes::drop(&self.file, x, y, out))?;
+        Ok(())
+    }
+
+    /// All points taken out.
+    pub fn clear(&mut self) {
+        *self = Survey::new();
+    }
+
+    /// The interpolated value at a location.
+    pub fn lookup(&self, x: u32, y: u32) -> Result<Found, Refusal> {
+        bytes::lookup(&self.file, x, y)
+    }
+
+    /// The same, with the chosen points in order of choice.
+    pub fn lookup_neighbours(&self, x: u32, y: u32) -> Result<(Found, Vec<Neighbour>), Refusal> {
+        let mut records = [0; 100];
+        let found = bytes::lookup_neighbours(&self.file, x, y, &mut records)?;
+        let neighbours = records.chunks_exact(10).take(found.count).map(neighbour).collect();
+        Ok((found, neighbours))
+    }
+
+    /// Lookups at many locations, with one reading of the file.
+    pub fn lookup_many(&self, places: &[(u16, u16)]) -> Result<Vec<Found>, Refusal> {
+        let from: Vec<u8> = places.iter().flat_map(|&(x, y)| [x.to_be_bytes(), y.to_be_bytes()].concat()).collect();
+        let mut out = vec![0; 8 * places.len()];
+        bytes::lookup_many(&self.file, &from, &mut out)?;
+        Ok(out.chunks_exact(8).map(|b| Found { answer: word(b) as i16, count: usize::from(word(&b[2..])), radius: long(&b[4..]) }).collect())
+    }
+
+    /// The grid file.
+    pub fn grid_file(&self, grid: &Grid) -> Result<Vec<u8>, Refusal> {
+        let mut out = vec![0; 2 * 64 * 64 + 20];
+        let length = bytes::grid_file(&self.file, grid, &mut out)?;
+        out.truncate(length);
+        Ok(out)
+    }
+
+    /// The grid's cells, row by row, y ascending, x ascending within a row.
+    pub fn grid(&self, grid: &Grid) -> Result<Vec<i16>, Refusal> {
+        let file = self.grid_file(grid)?;
+        Ok(file[..file.len() - 20].chunks_exact(2).map(|b| word(b) as i16).collect())
+    }
+}
+
+impl Default for Survey {
+    fn default() -> Survey {
+        Survey::new()
+    }
+}
+
+fn neighbour(b: &[u8]) -> Neighbour {
+    let kind = match b[9] {
+        0 => Kind::Coincident,
+        1 => Kind::Inverse,
+        2 => Kind::Tapered,
+        _ => Kind::Edge,
+    };
+    Neighbour { x: word(b), y: word(&b[2..]), z: b[4] as i8, distance: long(&b[5..]), kind }
+}
