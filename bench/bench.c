@@ -9,8 +9,6 @@
 #include <stdlib.h>
 #include <time.h>
 
-/* ---- Random surveys (splitmix64) ---- */
-
 static uint64_t seed;
 
 static uint32_t draw(uint32_t below) {
@@ -47,8 +45,6 @@ static void survey_draw(Survey *s, int n, enum Shape shape) {
     s->count = (uint16_t)n;
 }
 
-/* ---- Bytes, high byte first ---- */
-
 static unsigned get2(const uint8_t *b) { return (unsigned)b[0] << 8 | b[1]; }
 static uint32_t get4(const uint8_t *b) { return (uint32_t)get2(b) << 16 | get2(b + 2); }
 static void put2(uint8_t *b, unsigned v) { b[0] = (uint8_t)(v >> 8); b[1] = (uint8_t)v; }
@@ -72,8 +68,6 @@ static void file_of(const Survey *s, File *f) {
     memcpy(trailer + 8, "RLS1", 4);
     f->length = 5 * n + 12;
 }
-
-/* ---- The variants: all the locations in one call ---- */
 
 enum { LOCATIONS = MAX_SIDE * MAX_SIDE };
 
@@ -124,8 +118,6 @@ static void draw_locations(Locations *l, int n, uint32_t below) {
     }
 }
 
-/* ---- Whether they agree ---- */
-
 static int agree(int surveys) {
     static Answer a[LOCATIONS], b[LOCATIONS], c[LOCATIONS];
     static Locations l;
@@ -146,8 +138,6 @@ static int agree(int surveys) {
     printf("agree: %ld lookups, %ld differ\n", lookups, differing);
     return differing != 0;
 }
-
-/* ---- The table ---- */
 
 /* The process's own time, since the machine may be shared. */
 static double now(void) {

@@ -24,10 +24,8 @@ typedef struct {
 
 typedef struct { int16_t answer; uint16_t count; uint32_t radius; } Answer;
 
-/* The nearest points in order: squared distance, then place in the survey, ascend. */
+/* The nearest points in order: squared distance, then index in the survey, ascend. */
 typedef struct { int32_t squared[KEPT + 1], at[KEPT + 1]; int count; } Nearest;
-
-/* ---- Roots ---- */
 
 /* One bit at a time, with no division and no branch; gcc would make one of a plain `if`. */
 INLINE uint32_t root(uint64_t n) {
@@ -59,8 +57,6 @@ INLINE int32_t reach_of(uint32_t radius) {
     uint64_t r = radius + (uint64_t)1, reach = (r * r - 1) >> 16;
     return reach < FAR_AWAY ? (int32_t)reach : FAR_AWAY - 1;
 }
-
-/* ---- Selection ---- */
 
 INLINE int32_t squared_at(const Survey *s, int i, int px, int py) {
     int dx = s->x[i] - px, dy = s->y[i] - py;
@@ -136,8 +132,6 @@ INLINE void select_rank(const Survey *s, int px, int py, int32_t reach, Nearest 
     }
 }
 
-/* ---- Weights and mean ---- */
-
 INLINE Answer weigh(const Survey *s, int px, int py, uint32_t r0, int32_t reach, const Nearest *k) {
     if (k->squared[0] == 0 && k->count > 0) return (Answer){(int16_t)(256 * s->z[k->at[0]]), 1, 0};
     int within = 0;
@@ -181,8 +175,6 @@ INLINE Answer weigh(const Survey *s, int px, int py, uint32_t r0, int32_t reach,
     int32_t part = (int32_t)(256.0 * (values / weights) + 0.5);
     return (Answer){(int16_t)(256 * least + part), (uint16_t)n, radius};
 }
-
-/* ---- Lookups ---- */
 
 __attribute__((noinline)) static Answer lookup_form(Survey s, int px, int py) {
     Nearest k;

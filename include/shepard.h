@@ -71,9 +71,9 @@ uint8_t shepard_lookup(const uint8_t *file, size_t file_length, uint32_t x, uint
 uint8_t shepard_lookup_neighbours(const uint8_t *file, size_t file_length, uint32_t x, uint32_t y,
                                   uint8_t *records, size_t records_length, int16_t *answer, size_t *count, uint32_t *radius);
 
-/* Lookups at many locations, the file read once: 4 bytes of `places` each, x (2) and y (2), and 8 bytes of `out` for each: answer (2), count (2), radius (4).
+/* Lookups at many locations, the file read once: 4 bytes of `locations` each, x (2) and y (2), and 8 bytes of `out` for each: answer (2), count (2), radius (4).
  * Refused as the first lookup that is refused. Fewer than 4 bytes at the end are no location. 9 to 15, 1, 6, 8. */
-uint8_t shepard_lookup_many(const uint8_t *file, size_t file_length, const uint8_t *places, size_t places_length,
+uint8_t shepard_lookup_many(const uint8_t *file, size_t file_length, const uint8_t *locations, size_t locations_length,
                             uint8_t *out, size_t out_length);
 
 /* The grid file to the front of `out`, and its length. 9 to 15, 7, 6, 8. */

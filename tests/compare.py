@@ -10,7 +10,12 @@ from random import Random
 from typing import NamedTuple
 
 import exact
+import exact_files
+import exact_survey
+import generator
+import grid_inputs
 import journals
+import permitted
 import protocol
 
 SAMPLE = Path(__file__).parent.parent / "sample" / "worn_drive.rls"
@@ -26,10 +31,6 @@ MINIMA = {
     "grid files": 200,
     "grid cells": 10_000,
 }
-
-# What a lent line opens with, and one untouched byte, record or cell in it.
-LENT_WORDS = {"w": "bytes", "f": "bytes", "n": "records", "g": "values"}
-UNTOUCHED = {"w": "a5", "f": "a5", "n": " 165,165,-91,165,165", "g": " -23131"}
 
 
 class Outcome(NamedTuple):
@@ -52,94 +53,6 @@ class Difference(Exception):
         self.path = ""
 
 
-# A permitted text is a list of pieces; a piece is all the strings that may stand there. The answers
-# of a lookup are one or two neighbouring numbers, so no string of a piece opens another.
-
-
-def answer_pieces(lookup, form):
-    return tuple(form(answer) for answer in exact.permitted_answers(lookup))
-
-
-def two_bytes(answer):
-    return answer.to_bytes(2, "big", signed=True).hex()
-
-
-def found(lookup):
-    count, radius = len(lookup.neighbours), lookup.radius
-    return [answer_pieces(lookup, lambda answer: f"found {answer} {count} {radius}")]
-
-
-def grid_file_pieces(cells, trailer):
-    return [answer_pieces(cell, two_bytes) for cell in cells] + [(trailer.hex(),)]
-
-
-class Expected(NamedTuple):
-    """The pieces of a reply, those of what was filled, and how many lent units were filled."""
-
-    reply: list
-    filled: tuple = ()
-    units: int = 0
-
-
-def perform(survey, call):
-    """Do an accepted call on the exact survey; exact.Refused comes out of a refused one."""
-    numbers = call.numbers
-    if call.letter == "w":
-        data = survey.write(*numbers)
-        return Expected([(f"wrote {len(data)}",)], [(data.hex(),)], len(data))
-    if call.letter == "q":
-        return Expected(found(survey.lookup(*numbers)))
-    if call.letter == "n":
-        lookup = survey.lookup_with_neighbours(*numbers)
-        records = [(" " + ",".join(map(str, each)),) for each in lookup.neighbours]
-        return Expected(found(lookup), records, len(records))
-    if call.letter in "gf":
-        return perform_grid(survey, call.letter, exact.Grid(*numbers[:6]), numbers[6])
-    protocol.alter(survey, call)
-    return Expected([("ok",)])
-
-
-def perform_grid(survey, letter, grid, lent):
-    if letter == "g":
-        cells = survey.grid(grid, lent)
-        values = [answer_pieces(cell, lambda answer: f" {answer}") for cell in cells]
-        return Expected([(f"cells {len(cells)}",)], values, len(cells))
-    pieces = grid_file_pieces(*survey.grid_file(grid, lent))
-    length = exact.grid_file_length(grid)
-    return Expected([(f"wrote {length}",)], pieces, length)
-
-
-def expected_lines(survey, call):
-    """The permitted reply to a call and, where it lends, the permitted line of what was lent."""
-    try:
-        expected = perform(survey, call)
-    except exact.Refused as refusal:
-        expected = Expected([(f"refused {refusal.number}",)])
-    if call.letter not in protocol.MOST_LENT:
-        return [expected.reply]
-    lent = call.numbers[-1]
-    word = LENT_WORDS[call.letter]
-    opening = word + " " if word == "bytes" and lent else word
-    tail = UNTOUCHED[call.letter] * (lent - expected.units)
-    return [expected.reply, [(opening,), *expected.filled, (tail,)]]
-
-
-def mismatch(pieces, text):
-    """Where the text leaves what is permitted, or None."""
-    at = 0
-    for piece in pieces:
-        match = next((each for each in piece if text.startswith(each, at)), None)
-        if match is None:
-            return at
-        at += len(match)
-    return None if at == len(text) else at
-
-
-def permitted_text(pieces):
-    texts = [piece[0] if len(piece) == 1 else "(" + " or ".join(piece) + ")" for piece in pieces]
-    return "".join(texts)
-
-
 def excerpt(text, at=0):
     start = max(0, at - EXCERPT // 2)
     part = text[start : start + EXCERPT]
@@ -147,10 +60,10 @@ def excerpt(text, at=0):
 
 
 def check_text(pieces, text, trouble, at=None):
-    wrong = mismatch(pieces, text)
+    wrong = permitted.mismatch(pieces, text)
     if wrong is not None:
         came = excerpt(text, wrong) + (f" (position {wrong})" if wrong else "")
-        raise Difference(excerpt(permitted_text(pieces), wrong), came + trouble, at)
+        raise Difference(excerpt(permitted.permitted_text(pieces), wrong), came + trouble, at)
 
 
 # Running the programs.
@@ -183,10 +96,10 @@ def check_replies(journal, outcome, counts):
     """Hold every line that came against what is permitted, call by call."""
     lines = outcome.output.decode("ascii", "replace").split("\n")
     unended = lines.pop()
-    survey = exact.Survey()
+    survey = exact_survey.Survey()
     position = 0
     for at, call in enumerate(journal.calls):
-        expected = expected_lines(survey, call)
+        expected = permitted.expected_lines(survey, call)
         for pieces in expected:
             came = lines[position] if position < len(lines) else unended + " (no further line)"
             check_text(pieces, came, outcome.trouble, at)
@@ -207,7 +120,7 @@ def check_journal(journal, command, seconds, counts):
 
 def output_text(data):
     """Hexadecimal, or the text of what is too short to be a grid file."""
-    if len(data) <= exact.GRID_TRAILER_BYTES:
+    if len(data) <= exact_files.GRID_TRAILER_BYTES:
         return repr(data.decode("ascii", "replace"))
     return data.hex()
 
@@ -215,8 +128,8 @@ def output_text(data):
 def check_grid_input(test, command, seconds, counts):
     outcome = run_program(command, test.data, seconds)
     try:
-        cells, trailer = exact.grid_program(test.data)
-        pieces = grid_file_pieces(cells, trailer)
+        cells, trailer = exact_survey.grid_program(test.data)
+        pieces = permitted.grid_file_pieces(cells, trailer)
         counts["grid files"] += 1
         counts["grid cells"] += len(cells)
     except exact.Refused as refusal:
@@ -302,8 +215,8 @@ def main(arguments):
     parser.add_argument("replay_program")
     parser.add_argument("--seed", type=int, default=SEED)
     options = parser.parse_args(arguments)
-    sample = journals.GridInput("sample survey", SAMPLE.read_bytes())
-    tests = [sample, *journals.make(Random(options.seed))]
+    sample = grid_inputs.GridInput("sample survey", SAMPLE.read_bytes())
+    tests = [sample, *generator.make(Random(options.seed))]
     try:
         counts = run_tests(tests, [options.grid_program], [options.replay_program])
     except Difference as difference:

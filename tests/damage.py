@@ -2,13 +2,14 @@
 
 from struct import pack
 
-import exact
+import exact_files
+import surveys
 
-RECORD = exact.RECORD_BYTES
-LONGEST = exact.GREATEST_FILE
+RECORD = exact_files.RECORD_BYTES
+LONGEST = exact_files.GREATEST_FILE
 
 
-def assemble(preamble, records, count=None, back=None, total=None, magic=exact.SURVEY_MAGIC):
+def assemble(preamble, records, count=None, back=None, total=None, magic=exact_files.SURVEY_MAGIC):
     """A survey file; a trailer field is right unless it is given."""
     body = b"".join(records)
     count = len(records) if count is None else count
@@ -25,6 +26,18 @@ def random_preamble(rng):
     """Often none; at times bytes that look like a trailer."""
     length = rng.choice((0, 0, 1, 5, 11, 12, 13, rng.randrange(60)))
     return rng.choice((rng.randbytes(length), bytes(length), assemble(b"", [])))
+
+
+def sound_file(rng, points):
+    return assemble(random_preamble(rng), records_of(points))
+
+
+def few_points(rng):
+    """Few enough for many files; at times as many as a survey holds."""
+    if rng.randrange(20) == 0:
+        return surveys.make(rng, surveys.crowded)[0]
+    points, _ = surveys.make(rng, rng.choice((surveys.uniform, surveys.lattice, surveys.diagonal)))
+    return points[: rng.choice((1, 2, 3, 6, 12, 40))]
 
 
 def too_short(rng, preamble, records):
@@ -45,9 +58,9 @@ def longest(rng, preamble, records):
 
 
 def wrong_magic(rng, preamble, records):
-    magic = bytearray(exact.SURVEY_MAGIC)
+    magic = bytearray(exact_files.SURVEY_MAGIC)
     magic[rng.randrange(4)] ^= 1 << rng.randrange(8)
-    return assemble(preamble, records, magic=rng.choice((bytes(magic), exact.GRID_MAGIC)))
+    return assemble(preamble, records, magic=rng.choice((bytes(magic), exact_files.GRID_MAGIC)))
 
 
 def extended(rng, preamble, records):
@@ -141,7 +154,7 @@ def several_fields(rng, preamble, records):
         "count": rng.choice((257, 300, len(kept) + 1)),
         "back": rng.choice((0, 1, 2**32 - 1, RECORD * len(kept) + 5)),
         "total": rng.randrange(65_536),
-        "magic": exact.GRID_MAGIC,
+        "magic": exact_files.GRID_MAGIC,
     }
     chosen = rng.sample(sorted(wrong), rng.choice((1, 2, 2, 3)))
     return assemble(preamble, kept, **{name: wrong[name] for name in chosen})

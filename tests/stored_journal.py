@@ -3,7 +3,7 @@
     python3 tests/stored_journal.py > crates/shepard_replay/stdin
 
 What the program must write to it is kept in crates/shepard_replay/stdout; test_stored.py holds both
-files to this list and to exact.py.
+files to this list and to the exact-fraction program.
 """
 
 import sys

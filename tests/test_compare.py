@@ -11,9 +11,14 @@ from random import Random
 
 import compare
 import exact
+import exact_survey
 import fakes
+import generator
+import grid_inputs
 import journals
+import permitted
 import protocol
+import stand_ins
 
 FAKES = str(pathlib.Path(__file__).with_name("fakes.py"))
 # The parts of a whole run that sound and faulty programs are put to; a faulty one stops early.
@@ -73,7 +78,7 @@ def command(program, fault=None):
 
 
 def part_of_run(divisor):
-    return journals.make(Random(compare.SEED), divisor)
+    return generator.make(Random(compare.SEED), divisor)
 
 
 class SoundPrograms(unittest.TestCase):
@@ -170,7 +175,7 @@ class Generator(unittest.TestCase):
     def setUpClass(cls):
         tests = part_of_run(FAULTY_PART)
         cls.journals = [test for test in tests if isinstance(test, journals.Journal)]
-        cls.inputs = [test.data for test in tests if isinstance(test, journals.GridInput)]
+        cls.inputs = [test.data for test in tests if isinstance(test, grid_inputs.GridInput)]
 
     def test_a_seed_gives_the_same_tests(self):
         self.assertEqual(part_of_run(FAULTY_PART), part_of_run(FAULTY_PART))
@@ -178,30 +183,30 @@ class Generator(unittest.TestCase):
     def test_every_refusal_is_met_in_journals(self):
         met = Counter()
         for journal in self.journals:
-            survey = exact.Survey()
-            met.update(compare.expected_lines(survey, call)[0][0][0] for call in journal.calls)
+            survey = exact_survey.Survey()
+            met.update(permitted.expected_lines(survey, call)[0][0][0] for call in journal.calls)
         for number in range(1, 16):
             self.assertGreater(met[f"refused {number}"], 1, number)
 
     def test_every_refusal_of_the_grid_program_is_met(self):
-        met = Counter(map(fakes.grid, self.inputs))
+        met = Counter(map(stand_ins.grid, self.inputs))
         for number in (6, 7, *range(9, 16)):
             self.assertGreater(met[f"refused {number}\n".encode()], 0, number)
 
     def test_damaged_files_that_stay_valid(self):
-        survey, valid = exact.Survey(), 0
+        survey, valid = exact_survey.Survey(), 0
         for journal in self.journals:
             for call in journal.calls:
-                valid += call.damaged and compare.expected_lines(survey, call)[0] == [("ok",)]
+                valid += call.damaged and permitted.expected_lines(survey, call)[0] == [("ok",)]
         self.assertGreater(valid, 20)
 
     def test_counts_of_neighbours_and_kinds(self):
         """Lookups with 4, 5 and 10 neighbours by each rule, and all four kinds."""
         met = Counter()
         for journal in self.journals:
-            survey = exact.Survey()
+            survey = exact_survey.Survey()
             for call in journal.calls if journal.kind == "lookups" else []:
-                compare.expected_lines(survey, call)
+                permitted.expected_lines(survey, call)
             for lookup in survey.lookups.values():
                 initial = exact.initial_radius(survey.points())
                 met[len(lookup.neighbours), lookup.radius == initial] += 1

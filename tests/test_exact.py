@@ -1,4 +1,4 @@
-"""Holds exact.py against document 01's own numbers and a second, slower reading of the mean."""
+"""Holds the exact-fraction program to document 01's own numbers and a second, slower mean."""
 
 import unittest
 from fractions import Fraction
@@ -6,13 +6,16 @@ from random import Random
 from unittest import mock
 
 import exact
-import fakes
+import exact_files
+import exact_survey
+import grid_inputs
 import journals
+import stand_ins
 import surveys
 
 
 def survey_of(points):
-    survey = exact.Survey()
+    survey = exact_survey.Survey()
     for point in points:
         survey.add(*point)
     return survey
@@ -105,15 +108,16 @@ class Examples(RefusalCase):
 
     def test_no_records(self):
         survey = survey_of([(1, 1, 1)])
-        survey.load(exact.survey_file([]))
+        survey.load(exact_files.survey_file([]))
         self.assert_refused(6, survey.lookup, 0, 0)
 
     def test_whole_case(self):
         output = "F900 F900 0000 0000 0001 0001 0002 0001 00000004 524C4731"
-        cells, trailer = exact.grid_program(journals.whole_case(Random(0), 0))
+        case = grid_inputs.whole_case(Random(0), 0)
+        cells, trailer = exact_survey.grid_program(case)
         self.assertEqual([answers(cell) for cell in cells], [[-1792], [-1792]])
         self.assertEqual(trailer, bytes.fromhex(output)[4:])
-        self.assertEqual(fakes.grid(journals.whole_case(Random(0), 0)), bytes.fromhex(output))
+        self.assertEqual(stand_ins.grid(case), bytes.fromhex(output))
 
 
 class Mean(unittest.TestCase):
@@ -144,8 +148,8 @@ class Files(RefusalCase):
         rng = Random(5)
         for kind in surveys.KINDS:
             points, _ = surveys.make(rng, kind)
-            data = exact.survey_file(survey_of(points).points())
-            self.assertEqual(exact.read_survey_file(b"preamble" + data), sorted(points))
+            data = exact_files.survey_file(survey_of(points).points())
+            self.assertEqual(exact_files.read_survey_file(b"preamble" + data), sorted(points))
 
     def test_order_of_refusals(self):
         survey = survey_of([(1, 1, 1)])
@@ -158,8 +162,8 @@ class Files(RefusalCase):
         survey.drop(1, 1)
         self.assert_refused(1, survey.lookup_with_neighbours, 0, 4096, 0)
         self.assert_refused(6, survey.lookup_with_neighbours, 0, 0, 0)
-        self.assert_refused(7, survey.grid, exact.Grid(0, 0, 0, 1, 1, 1), 0)
-        self.assert_refused(6, survey.grid, exact.Grid(0, 0, 1, 1, 1, 1), 0)
+        self.assert_refused(7, survey.grid, exact_files.Grid(0, 0, 0, 1, 1, 1), 0)
+        self.assert_refused(6, survey.grid, exact_files.Grid(0, 0, 1, 1, 1, 1), 0)
         self.assert_refused(8, survey.write, 11)
 
 

@@ -6,7 +6,8 @@ import tempfile
 import unittest
 from pathlib import Path
 
-import exact
+import exact_files
+import exact_survey
 
 SAMPLE = Path(__file__).parent.parent / "sample"
 
@@ -20,8 +21,8 @@ class Sample(unittest.TestCase):
 
     def test_has_200_points_and_a_proper_grid(self):
         data = (SAMPLE / "worn_drive.rls").read_bytes()
-        self.assertEqual(len(exact.read_survey_file(data)), 200)
-        cells, _ = exact.grid_program(data)
+        self.assertEqual(len(exact_files.read_survey_file(data)), 200)
+        cells, _ = exact_survey.grid_program(data)
         self.assertEqual(len(cells), 64 * 64)
 
 

@@ -5,8 +5,9 @@ from collections import Counter
 from pathlib import Path
 
 import compare
-import exact
+import exact_survey
 import journals
+import permitted
 import stored_journal
 
 CRATES = Path(__file__).parent.parent / "crates"
@@ -33,8 +34,9 @@ class StoredJournal(unittest.TestCase):
 class StoredGridInput(unittest.TestCase):
     def test_output_is_permitted(self):
         stored = CRATES / "shepard_grid"
-        pieces = compare.grid_file_pieces(*exact.grid_program((stored / "stdin").read_bytes()))
-        self.assertIsNone(compare.mismatch(pieces, (stored / "stdout").read_bytes().hex()))
+        cells, trailer = exact_survey.grid_program((stored / "stdin").read_bytes())
+        pieces = permitted.grid_file_pieces(cells, trailer)
+        self.assertIsNone(permitted.mismatch(pieces, (stored / "stdout").read_bytes().hex()))
 
 
 if __name__ == "__main__":

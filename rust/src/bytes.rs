@@ -85,10 +85,10 @@ pub fn lookup_neighbours(file: &[u8], x: u32, y: u32, records: &mut [u8]) -> Res
     Ok(found)
 }
 
-/// Lookups at many locations, 4 bytes of `places` and 8 bytes of `out` each.
-pub fn lookup_many(file: &[u8], places: &[u8], out: &mut [u8]) -> Result<(), Refusal> {
+/// Lookups at many locations, 4 bytes of `locations` and 8 bytes of `out` each.
+pub fn lookup_many(file: &[u8], locations: &[u8], out: &mut [u8]) -> Result<(), Refusal> {
     // SAFETY: as in `rewrite`.
-    unless(unsafe { sys::shepard_lookup_many(file.as_ptr(), file.len(), places.as_ptr(), places.len(), out.as_mut_ptr(), out.len()) })
+    unless(unsafe { sys::shepard_lookup_many(file.as_ptr(), file.len(), locations.as_ptr(), locations.len(), out.as_mut_ptr(), out.len()) })
 }
 
 /// The grid file to the front of `out`, and its length.

@@ -83,9 +83,9 @@ impl Survey {
     }
 
     /// Lookups at many locations, with one reading of the file.
-    pub fn lookup_many(&self, places: &[(u16, u16)]) -> Result<Vec<Found>, Refusal> {
-        let from: Vec<u8> = places.iter().flat_map(|&(x, y)| [x.to_be_bytes(), y.to_be_bytes()].concat()).collect();
-        let mut out = vec![0; 8 * places.len()];
+    pub fn lookup_many(&self, locations: &[(u16, u16)]) -> Result<Vec<Found>, Refusal> {
+        let from: Vec<u8> = locations.iter().flat_map(|&(x, y)| [x.to_be_bytes(), y.to_be_bytes()].concat()).collect();
+        let mut out = vec![0; 8 * locations.len()];
         bytes::lookup_many(&self.file, &from, &mut out)?;
         Ok(out.chunks_exact(8).map(|b| Found { answer: word(b) as i16, count: usize::from(word(&b[2..])), radius: long(&b[4..]) }).collect())
     }

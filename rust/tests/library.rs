@@ -83,23 +83,23 @@ fn many_lookups() {
     for _ in 0..200 {
         let points = random.points(256);
         let file = paper::write(&points);
-        let places: Vec<(u16, u16)> = (0..random.below(20)).map(|_| (random.coordinate(4096) as u16, random.coordinate(4096) as u16)).collect();
-        let mut from: Vec<u8> = places.iter().flat_map(|&(x, y)| [x.to_be_bytes(), y.to_be_bytes()].concat()).collect();
+        let locations: Vec<(u16, u16)> = (0..random.below(20)).map(|_| (random.coordinate(4096) as u16, random.coordinate(4096) as u16)).collect();
+        let mut from: Vec<u8> = locations.iter().flat_map(|&(x, y)| [x.to_be_bytes(), y.to_be_bytes()].concat()).collect();
         from.extend(vec![7; random.below(4) as usize]);
-        let room = (8 * places.len() + 5).saturating_sub(random.below(10) as usize);
+        let room = (8 * locations.len() + 5).saturating_sub(random.below(10) as usize);
         let mut out = vec![LENT; room];
         let answer = bytes::lookup_many(&file, &from, &mut out);
-        let refusals = places.iter().map(|&(x, y)| paper::lookup_refusal(&points, u32::from(x), u32::from(y)));
-        let short = if room < 8 * places.len() { 8 } else { 0 };
+        let refusals = locations.iter().map(|&(x, y)| paper::lookup_refusal(&points, u32::from(x), u32::from(y)));
+        let short = if room < 8 * locations.len() { 8 } else { 0 };
         let no = refusals.chain([short]).find(|&no| no != 0).unwrap_or(0);
         if no != 0 {
             assert_eq!((answer, out), (Err(Refusal(no)), vec![LENT; room]));
             continue;
         }
         assert_eq!(answer, Ok(()));
-        assert_eq!(out[8 * places.len()..], vec![LENT; room - 8 * places.len()]);
-        let found = Survey::from_file(&file).unwrap().lookup_many(&places).unwrap();
-        for (&(x, y), found) in places.iter().zip(found) {
+        assert_eq!(out[8 * locations.len()..], vec![LENT; room - 8 * locations.len()]);
+        let found = Survey::from_file(&file).unwrap().lookup_many(&locations).unwrap();
+        for (&(x, y), found) in locations.iter().zip(found) {
             assert_eq!(bytes::lookup(&file, u32::from(x), u32::from(y)), Ok(found));
         }
     }

@@ -22,11 +22,11 @@ use Rattle.laws.proofs.SortLaws.{length-sort, map-sort}
 use Rattle.laws.proofs.PartLaws.{passing, length-passing, Parted, take-sort-passing}
 use Rattle.columns.specs.Columns.{surveyIn}
 use Rattle.columns.proofs.ReadLaws.{length-points, points-at}
-use Rattle.squares.specs.Squares.{HoldsSquares, Words, within, placesWithin}
-use Rattle.squares.proofs.PlaceLaws.{places-below, places-ascend, map-places}
+use Rattle.squares.specs.Squares.{HoldsSquares, Words, within, indicesWithin}
+use Rattle.squares.proofs.IndexLaws.{indices-below, indices-ascend, map-indices}
 use Rattle.candidates.specs.Keys.{keyAt, candidateOf, noKey, firstKeys}
 use Rattle.candidates.specs.First.{candidateAt, pointsWithin}
-use Rattle.candidates.proofs.KeyLaws.{key-squared, key-x, key-y, key-place, key-before, sort-before}
+use Rattle.candidates.proofs.KeyLaws.{key-squared, key-x, key-y, key-index, key-before, sort-before}
 
 module _ (xs ys : List ℕ) (zs : List ℤ) (n : ℕ) (p : Location) (squares : List ℕ) (words : Words squares)
     (held : HoldsSquares (surveyIn xs ys zs n) p squares) (limit : ℕ) where
@@ -46,8 +46,8 @@ module _ (xs ys : List ℕ) (zs : List ℤ) (n : ℕ) (p : Location) (squares : 
   abbrev inside : Point → Bool
   inside a = leb (squared s p a) limit
 
-  abbrev places : List ℕ
-  places = placesWithin limit squares
+  abbrev indices : List ℕ
+  indices = indicesWithin limit squares
 
   size : (length squares ≡ length (s .points)) × (length squares ≤ 256)
   size =
@@ -58,11 +58,11 @@ module _ (xs ys : List ℕ) (zs : List ℤ) (n : ℕ) (p : Location) (squares : 
     square-at : getD squares i 0 ≡ squared s p (pointAt i)
     square-at = ap (λ (l : List ℕ). getD l i 0) held ∙ getD-map (squared s p) (s .points) i 0 (point 0 0 (pos 0)) (omega (arith, size .0))
 
-    at-place : pointAt i ≡ point (getD xs i 0 % 4096) (getD ys i 0 % 4096) (getD zs i (pos 0))
-    at-place = points-at xs ys zs n i (point 0 0 (pos 0)) (omega (arith, size .0, length-points xs ys zs n))
+    at-index : pointAt i ≡ point (getD xs i 0 % 4096) (getD ys i 0 % 4096) (getD zs i (pos 0))
+    at-index = points-at xs ys zs n i (point 0 0 (pos 0)) (omega (arith, size .0, length-points xs ys zs n))
 
     key-point : pointOf (key i) ≡ pointAt i
-    key-point = ap pointAt (key-place (getD squares i 0) (getD xs i 0 % 4096) (getD ys i 0 % 4096) i (omega arith) (omega arith) (omega (arith, size .1)))
+    key-point = ap pointAt (key-index (getD squares i 0) (getD xs i 0 % 4096) (getD ys i 0 % 4096) i (omega arith) (omega arith) (omega (arith, size .1)))
 
     key-candidate : candidateOf zs (key i) ≡ candidateAt s p (pointOf (key i))
     unfolding candidateAt
@@ -70,7 +70,7 @@ module _ (xs ys : List ℕ) (zs : List ℤ) (n : ℕ) (p : Location) (squares : 
         let x : getD xs i 0 % 4096 < 4096 = omega arith in
         let y : getD ys i 0 % 4096 < 4096 = omega arith in
         let k : i < 256 = omega (arith, size .1) in
-        rw (key-x (getD squares i 0) _ _ i x y k, key-y (getD squares i 0) _ _ i x y k, key-place (getD squares i 0) _ _ i x y k, key-squared (getD squares i 0) _ _ i x y k, ← square-at, at-place)
+        rw (key-x (getD squares i 0) _ _ i x y k, key-y (getD squares i 0) _ _ i x y k, key-index (getD squares i 0) _ _ i x y k, key-squared (getD squares i 0) _ _ i x y k, ← square-at, at-index)
 
     key-most : key i ≤ noKey
     key-most =
@@ -83,12 +83,12 @@ module _ (xs ys : List ℕ) (zs : List ℤ) (n : ℕ) (p : Location) (squares : 
   key-nearer : (i j : ℕ) → i < j → i < length squares → j < length squares → nearer s p (pointOf (key j)) (pointOf (key i)) ≡ ltb (key j) (key i)
   unfolding nearer
   key-nearer i j l h k =
-      rw (key-point i h, key-point j k, ← square-at i h, ← square-at j k, at-place i h, at-place j k)
+      rw (key-point i h, key-point j k, ← square-at i h, ← square-at j k, at-index i h, at-index j k)
       (key-before (getD squares i 0) (getD xs i 0 % 4096) (getD ys i 0 % 4096) i (getD squares j 0) (getD xs j 0 % 4096) (getD ys j 0 % 4096) j
       (omega arith) (omega arith) (omega arith) (omega arith) l (omega (arith, size .1)))
 
-  below : All (λ i. i < length squares) places
-  below = places-below (λ i. within limit (getD squares i 0)) (length squares)
+  below : All (λ i. i < length squares) indices
+  below = indices-below (λ i. within limit (getD squares i 0)) (length squares)
 
   apart : (a b : Point) → inside a ≡ true → inside b ≡ false → squared s p a < squared s p b
   apart a b e f = omega (arith, leb-true (squared s p a) limit e, leb-false (squared s p b) limit f)
@@ -101,44 +101,44 @@ module _ (xs ys : List ℕ) (zs : List ℤ) (n : ℕ) (p : Location) (squares : 
     then = λ a b e f. more-lexical (squared s p b) (squared s p a) (precedes b a) (apart a b e f);
   }
 
-  points-within : map pointAt places ≡ passing inside (s .points)
+  points-within : map pointAt indices ≡ passing inside (s .points)
   points-within =
-      map-places (λ i. within limit (getD squares i 0)) inside (s .points) (point 0 0 (pos 0)) (length squares) (omega (arith, size .0)) (λ i h. ap (λ d. leb d limit) (square-at i h))
+      map-indices (λ i. within limit (getD squares i 0)) inside (s .points) (point 0 0 (pos 0)) (length squares) (omega (arith, size .0)) (λ i h. ap (λ d. leb d limit) (square-at i h))
       ∙ rw (size .0, take-length)
 
-  pub found : length places ≡ pointsWithin s p limit
-  found = sym (length-map places pointAt) ∙ ap length points-within ∙ length-passing inside (s .points)
+  pub found : length indices ≡ pointsWithin s p limit
+  found = sym (length-map indices pointAt) ∙ ap length points-within ∙ length-passing inside (s .points)
 
   abbrev keys : List ℕ
-  keys = map key places
+  keys = map key indices
 
   keys-ordered : map pointOf (sort ltb keys) ≡ sort (nearer s p) (passing inside (s .points))
   keys-ordered =
       map-sort pointOf ltb (nearer s p) keys
-      (pairs-map (λ a b. nearer s p (pointOf b) (pointOf a) ≡ ltb b a) key places
-      (pairs-both (λ i j. i < j) (λ i j. nearer s p (pointOf (key j)) (pointOf (key i)) ≡ ltb (key j) (key i)) (λ i. i < length squares) key-nearer places
-      (places-ascend (λ i. within limit (getD squares i 0)) (length squares)) below))
+      (pairs-map (λ a b. nearer s p (pointOf b) (pointOf a) ≡ ltb b a) key indices
+      (pairs-both (λ i j. i < j) (λ i j. nearer s p (pointOf (key j)) (pointOf (key i)) ≡ ltb (key j) (key i)) (λ i. i < length squares) key-nearer indices
+      (indices-ascend (λ i. within limit (getD squares i 0)) (length squares)) below))
       ∙ ap (sort (nearer s p))
-      (map-map pointOf key places
-      ∙ map-same (λ i. pointOf (key i)) pointAt places (all-imp (λ i. i < length squares) (λ i. pointOf (key i) ≡ pointAt i) key-point places below)
+      (map-map pointOf key indices
+      ∙ map-same (λ i. pointOf (key i)) pointAt indices (all-imp (λ i. i < length squares) (λ i. pointOf (key i) ≡ pointAt i) key-point indices below)
       ∙ points-within)
 
   keys-tell : All (λ k. candidateOf zs k ≡ candidateAt s p (pointOf k)) (sort ltb keys)
   keys-tell =
       sort-all ltb (λ k. candidateOf zs k ≡ candidateAt s p (pointOf k)) keys
-      (all-map (λ k. candidateOf zs k ≡ candidateAt s p (pointOf k)) key places
-      (all-imp (λ i. i < length squares) (λ i. candidateOf zs (key i) ≡ candidateAt s p (pointOf (key i))) key-candidate places below))
+      (all-map (λ k. candidateOf zs k ≡ candidateAt s p (pointOf k)) key indices
+      (all-imp (λ i. i < length squares) (λ i. candidateOf zs (key i) ≡ candidateAt s p (pointOf (key i))) key-candidate indices below))
 
   -- k of the first keys, of no more than were found, are the keys of the first k points in order
-  module _ (k : ℕ) (few : k ≤ 11) (some : k ≤ length places) where
-    keys-first : take k (firstKeys xs ys squares places) ≡ take k (sort ltb keys)
+  module _ (k : ℕ) (few : k ≤ 11) (some : k ≤ length indices) where
+    keys-first : take k (firstKeys xs ys squares indices) ≡ take k (sort ltb keys)
     unfolding firstKeys
     keys-first =
         take-take k 11 _ few
-        ∙ ap (take k) (sort-before noKey 11 keys (all-map (λ e. e ≤ noKey) key places (all-imp (λ i. i < length squares) (λ i. key i ≤ noKey) key-most places below)))
-        ∙ take-append-le k (sort ltb keys) (replicate 11 noKey) (omega (arith, length-sort ltb keys, length-map places key))
+        ∙ ap (take k) (sort-before noKey 11 keys (all-map (λ e. e ≤ noKey) key indices (all-imp (λ i. i < length squares) (λ i. key i ≤ noKey) key-most indices below)))
+        ∙ take-append-le k (sort ltb keys) (replicate 11 noKey) (omega (arith, length-sort ltb keys, length-map indices key))
 
-    pub first-are : map (candidateOf zs) (take k (firstKeys xs ys squares places)) ≡ map (candidateAt s p) (take k (ordered s p))
+    pub first-are : map (candidateOf zs) (take k (firstKeys xs ys squares indices)) ≡ map (candidateAt s p) (take k (ordered s p))
     unfolding ordered
     first-are =
         ap (map (candidateOf zs)) keys-first

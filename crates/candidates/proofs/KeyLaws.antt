@@ -26,10 +26,10 @@ module _ (d x y i : ℕ) (hx : x < 4096) (hy : y < 4096) (hi : i < 256) where
   pub key-y : keyOf d x y i / 256 % 4096 ≡ y
   key-y = omega arith
 
-  pub key-place : keyOf d x y i % 256 ≡ i
-  key-place = omega arith
+  pub key-index : keyOf d x y i % 256 ≡ i
+  key-index = omega arith
 
--- of two numbers with a place behind each, the later place does not come first where they are equal
+-- of two numbers with an index behind each, the later index does not come first where they are equal
 later : (m n i j : ℕ) → i < j → j < 256 → ltb m n ≡ ltb (m * 256 + j) (n * 256 + i)
 later m n i j h k = go (ltb m n) refl
   where
@@ -37,7 +37,7 @@ later m n i j h k = go (ltb m n) refl
     go true e = sym (lt-ltb (m * 256 + j) (n * 256 + i) (omega (arith, ltb-true m n e)))
     go false e = sym (le-ltb (m * 256 + j) (n * 256 + i) (omega (arith, ltb-false m n e)))
 
--- the point of a later place comes first exactly where its key is less
+-- the point of a later index comes first exactly where its key is less
 pub key-before : (d x y i e u v j : ℕ) → x < 4096 → y < 4096 → u < 4096 → v < 4096 → i < j → j < 256
     → lexical e d (lexical u x (ltb v y)) ≡ ltb (keyOf e u v j) (keyOf d x y i)
 key-before d x y i e u v j hx hy hu hv h k =
@@ -78,7 +78,7 @@ module _ (m : ℕ) where
   unfolding sort
   sort-before k l h = onto-before k [] l h
 
--- the first keys of one place more
+-- the first keys of one index more
 pub first-more : (xs ys squares at : List ℕ) (j : ℕ) → j < length at
     → firstKeys xs ys squares (take (j + 1) at) ≡ take 11 (insert ltb (keyAt xs ys squares (getD at j 0)) (firstKeys xs ys squares (take j at)))
 unfolding firstKeys

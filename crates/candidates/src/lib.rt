@@ -27,7 +27,7 @@ pub struct Candidates {
     pub count: usize,
 }
 
-// A point's place in the order as one number, so that one comparison tells which of two comes first.
+// Where a point comes in the order as one number, so that one comparison tells which of two comes first.
 fn key_of(squared: u32, x: u16, y: u16, i: u8) -> u64
     requires { ⌜ (x < 4096) × (y < 4096) ⌝ }
     ensures { λ r. ⌜ r ≡ keyOf squared x y i ⌝ }
@@ -35,7 +35,7 @@ fn key_of(squared: u32, x: u16, y: u16, i: u8) -> u64
     ((squared as u64 * 4096 + x as u64) * 4096 + y as u64) * 256 + i as u64
 }
 
-// The key of the point at place i.
+// The key of the point at index i.
 fn key_at<'a>(xs: &'a [u16; 256], ys: &'a [u16; 256], squares: &'a [u32], i: u8) -> u64
     requires { ⌜ i < length (now squares) ⌝ }
     ensures { λ r. ⌜ r ≡ keyAt (now (xs .entry)) (now (ys .entry)) (now (squares .entry)) i ⌝ }
@@ -78,7 +78,7 @@ fn put(keys: [u64; 11], key: u64) -> [u64; 11]
     a
 }
 
-// The first eleven keys of the points at these places, in order.
+// The first eleven keys of the points at these indices, in order.
 fn first_keys<'a>(
     xs: &'a [u16; 256],
     ys: &'a [u16; 256],
@@ -98,7 +98,7 @@ fn first_keys<'a>(
     keys
 }
 
-// What a key says, with the value at its place.
+// What a key says, with the value at its index.
 fn candidate_of(zs: &[i8; 256], key: u64) -> Candidate
     ensures { λ r. ⌜ (r ≡ candidateOf (now (zs .entry)) key) × (inRange (r .z) ≡ true) ⌝ }
 {
@@ -151,7 +151,7 @@ pub fn first<'a>(
     ensures { λ r. ⌜ InRange (listOf r) ⌝ }
 {
     let mut at = [0u8; 256];
-    let found = squares::places_within(squares, limit, &mut at);
+    let found = squares::indices_within(squares, limit, &mut at);
     let keys = first_keys(xs, ys, squares, &at[..found]);
     let n = at_most_11(found);
     Candidates {

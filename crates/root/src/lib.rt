@@ -25,8 +25,8 @@ fn searched(n: u64) -> u64
     d
 }
 
-// A number to try first: three of Newton's steps from a float that has half of n's exponent. Nothing rests on it.
-// n as a float is 2⁵² + n less 2⁵²: a conversion would wait for the root before.
+// A number to try first: three of Newton's steps from a float that has half of n's exponent, and a little more, so that a whole root is not missed. Nothing rests on it.
+// n as a float is 2⁵² + n, by its bit pattern, less 2⁵²: a conversion would wait for the root before. The second pattern is about half of that of 1.
 fn guess(n: u64) -> u64
     requires { ⌜ n < 2 ^ 50 ⌝ }
     ensures { λ r. ⌜ r < 33554432 ⌝ }

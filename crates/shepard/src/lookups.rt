@@ -94,13 +94,13 @@ pub extern "C" fn shepard_lookup_neighbours(
 
 // The answers at a list of locations: refusals 9 to 15, then 1 or 6 of the first that is refused, then 8.
 #[no_mangle]
-pub extern "C" fn shepard_lookup_many(file: &[u8], places: &[u8], out: &mut [u8]) -> u8
-    ensures { λ r. ⌜ Answers (now (file .entry)) (now (places .entry)) (now (out .entry)) r (now (out .exit)) ⌝ }
+pub extern "C" fn shepard_lookup_many(file: &[u8], locations: &[u8], out: &mut [u8]) -> u8
+    ensures { λ r. ⌜ Answers (now (file .entry)) (now (locations .entry)) (now (out .entry)) r (now (out .exit)) ⌝ }
 {
     let loaded = files::read(file);
     if loaded.refusal != 0 {
         return loaded.refusal;
     }
     let s = loaded.survey;
-    many_lookups::write(s, places, out)
+    many_lookups::write(s, locations, out)
 }

@@ -11,7 +11,7 @@ use lib.Seq.{take-suc, take-suc-set, take-set-le}
 use borrow.Author.Tests.{le-leb}
 use Rattle.model.specs.Lists.{count}
 use Rattle.laws.proofs.MapLaws.{count-last}
-use Rattle.squares.specs.Squares.{within, countWithin, placesOf, Words}
+use Rattle.squares.specs.Squares.{within, countWithin, indicesOf, Words}
 
 pub byte-most : (t : Bool) → boolByte t ≤ 1
 byte-most true = omega arith
@@ -28,14 +28,14 @@ counted-more limit k i l h e m = (
     go true = omega arith
     go false = omega arith
 
--- a place stored behind the first k stays there where it passes
-pub places-more : (t : ℕ → Bool) (at : List ℕ) (k i : ℕ) → k < length at → take k at ≡ placesOf t i → take (k + boolByte (t i)) (set at k i) ≡ placesOf t (i + 1)
-unfolding placesOf
-places-more t at k i h e = rw (add-one i) (go (t i))
+-- an index stored behind the first k stays there where it passes
+pub indices-more : (t : ℕ → Bool) (at : List ℕ) (k i : ℕ) → k < length at → take k at ≡ indicesOf t i → take (k + boolByte (t i)) (set at k i) ≡ indicesOf t (i + 1)
+unfolding indicesOf
+indices-more t at k i h e = rw (add-one i) (go (t i))
   where
-    go : (u : Bool) → take (k + boolByte u) (set at k i) ≡ placesOf t i ++ cond u (i ∷ []) []
+    go : (u : Bool) → take (k + boolByte u) (set at k i) ≡ indicesOf t i ++ cond u (i ∷ []) []
     go true = rw (add-one k, take-suc-set at k i h, e)
-    go false = let z : k + 0 ≡ k = omega arith in rw (z, take-set-le k at k i (omega arith), e) (sym (append-nil (placesOf t i)))
+    go false = let z : k + 0 ≡ k = omega arith in rw (z, take-set-le k at k i (omega arith), e) (sym (append-nil (indicesOf t i)))
 
 -- a number of 32 bits is within the greatest
 pub all-within : (l : List ℕ) → Words l → countWithin 4294967295 l ≡ length l

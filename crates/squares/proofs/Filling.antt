@@ -14,7 +14,7 @@ use Rattle.columns.specs.Columns.{held, wrapped, pointsIn, surveyIn}
 use Rattle.squares.specs.Squares.{HoldsSquares}
 
 module _ (xs ys : List ℕ) (p : Location) where
-  -- the first i of a list are the squared distances of the points at the first i places, whatever their values are
+  -- the first i of a list are the squared distances of the points at the first i indices, whatever their values are
   abbrev pub Filled : ℕ → List ℕ → Type 0
   Filled i l = (s : State) (zs : List ℤ) → take i l ≡ map (squared s p) (map wrapped (held xs ys zs i))
 

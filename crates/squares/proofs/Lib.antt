@@ -1,4 +1,4 @@
 -- Facts that the proofs of this crate share.
 pub mod Counting
 pub mod Filling
-pub mod PlaceLaws
+pub mod IndexLaws

@@ -24,19 +24,19 @@ within limit d = leb d limit
 abbrev pub countWithin : ℕ → List ℕ → ℕ
 countWithin limit l = count (within limit) l
 
--- the places below n that pass a test, ascending
-unfoldable pub placesOf : (ℕ → Bool) → ℕ → List ℕ
-placesOf t zero = []
-placesOf t (suc n) = placesOf t n ++ cond (t n) (n ∷ []) []
+-- the indices below n that pass a test, ascending
+unfoldable pub indicesOf : (ℕ → Bool) → ℕ → List ℕ
+indicesOf t zero = []
+indicesOf t (suc n) = indicesOf t n ++ cond (t n) (n ∷ []) []
 
--- the places of those within the limit
-abbrev pub placesWithin : ℕ → List ℕ → List ℕ
-placesWithin limit l = placesOf (λ i. within limit (getD l i 0)) (length l)
+-- the indices of those within the limit
+abbrev pub indicesWithin : ℕ → List ℕ → List ℕ
+indicesWithin limit l = indicesOf (λ i. within limit (getD l i 0)) (length l)
 
--- these places are the first k of a list
-pub record HoldsPlaces (limit : ℕ) (l : List ℕ) (k : ℕ) (at : List ℕ) : Type 0 where
-  pub count : k ≡ length (placesWithin limit l)
-  pub places : take k at ≡ placesWithin limit l
+-- these indices are the first k of a list
+pub record HoldsIndices (limit : ℕ) (l : List ℕ) (k : ℕ) (at : List ℕ) : Type 0 where
+  pub count : k ≡ length (indicesWithin limit l)
+  pub indices : take k at ≡ indicesWithin limit l
 
 -- how many points the choice goes by where k of n are within R0: five, or those within R0, or eleven; all where they are fewer
 abbrev pub needed : ℕ → ℕ → ℕ

@@ -9,7 +9,7 @@ ghost use lib.ListN.{length};
 ghost use Rattle.model.specs.Point.{State, location, point};
 ghost use Rattle.model.specs.Distance.{gap as gapOf, squared};
 ghost use Rattle.columns.specs.Columns.{wrapped, surveyIn};
-ghost use Rattle.squares.specs.Squares.{HoldsSquares, Words, countWithin, HoldsPlaces, needed};
+ghost use Rattle.squares.specs.Squares.{HoldsSquares, Words, countWithin, HoldsIndices, needed};
 
 // The difference of two coordinates, in 16 bits, so that a pass works out eight at a time.
 fn gap(m: u16, n: u16) -> u16
@@ -55,10 +55,10 @@ pub fn count_within(squares: &[u32], limit: u32) -> u32
     k
 }
 
-// The places of those within the limit, and how many they are. Each place is stored where the next goes, and stays where it counts: no branch turns on a point.
-pub fn places_within(squares: &[u32], limit: u32, at: &mut [u8]) -> usize
+// The indices of those within the limit, and how many they are. Each index is stored where the next goes, and stays where it counts: no branch turns on a point.
+pub fn indices_within(squares: &[u32], limit: u32, at: &mut [u8]) -> usize
     requires { ⌜ (length (now squares) ≤ 256) × (length (now at) ≡ 256) ⌝ }
-    ensures { λ r. ⌜ HoldsPlaces limit (now (squares .entry)) r (now (at .exit)) ⌝ }
+    ensures { λ r. ⌜ HoldsIndices limit (now (squares .entry)) r (now (at .exit)) ⌝ }
 {
     let mut k: usize = 0;
     let mut i: usize = 0;

@@ -1,35 +1,35 @@
--- `first` meets its contract: the places found are those within the limit, and the first keys there are those of the first points in order.
+-- `first` meets its contract: the indices found are those within the limit, and the first keys there are those of the first points in order.
 use mathlib.Core.Path.{sym, _∙_}
 use native.Mathlib.Omega.{arith}
 use lib.ListN.{length, getD}
 use lib.Seq.{length-take-le}
 use borrow.Author.Needs.{needs}
 use Rattle.squares.specs.Squares.{within}
-use Rattle.squares.proofs.PlaceLaws.{places-below, length-places}
+use Rattle.squares.proofs.IndexLaws.{indices-below, length-indices}
 use Rattle.candidates.proofs.FirstLaws.{found, first-are}
 use Rattle.candidates.proofs.first.Statement.{statement}
 use Rattle.candidates.proofs.first.Tie as tie
 
-slice-aggregate-places-within : tie.Need-slice-aggregate-places-within
-slice-aggregate-places-within c = search needs
+slice-aggregate-indices-within : tie.Need-slice-aggregate-indices-within
+slice-aggregate-indices-within c = search needs
 
-places-within-requires : tie.Need-places-within-requires
-places-within-requires c κs = search needs
+indices-within-requires : tie.Need-indices-within-requires
+indices-within-requires c κs = search needs
 
 array-share-prefix-at : tie.Need-array-share-prefix-at
 array-share-prefix-at c =
-    let h = c .before .places-within .ensures in
+    let h = c .before .indices-within .ensures in
     let a = c .before .before .before .before in
-    omega (arith, c .before .places-within .kept .1 .1 .0, h .count, length-places (λ i. within (a .args .limit) (getD (a .args .squares .now) i 0)) (length (a .args .squares .now)), a .pre .0)
+    omega (arith, c .before .indices-within .kept .1 .1 .0, h .count, length-indices (λ i. within (a .args .limit) (getD (a .args .squares .now) i 0)) (length (a .args .squares .now)), a .pre .0)
 
 slice-aggregate-first-keys : tie.Need-slice-aggregate-first-keys
 slice-aggregate-first-keys c = sym (length-take-le _ _ (array-share-prefix-at (c .before)))
 
 first-keys-requires : tie.Need-first-keys-requires
 first-keys-requires c κs =
-    let h = c .before .before .places-within .ensures in
+    let h = c .before .before .indices-within .ensures in
     let a = c .before .before .before .before .before .args in
-    rw (h .places) (places-below (λ i. within (a .limit) (getD (a .squares .now) i 0)) (length (a .squares .now)))
+    rw (h .indices) (indices-below (λ i. within (a .limit) (getD (a .squares .now) i 0)) (length (a .squares .now)))
 
 at-most-11-requires : tie.Need-at-most-11-requires
 at-most-11-requires c κs = search needs
@@ -41,7 +41,7 @@ returns : tie.Need-returns
 returns c =
     let n = c .before .at-most-11 .ensures in
     let k = c .before .before .first-keys .ensures in
-    let h = c .before .before .before .before .before .places-within .ensures in
+    let h = c .before .before .before .before .before .indices-within .ensures in
     let a = c .before .before .before .before .before .before .before .before in (
       (λ m p e.
           let xs = a .args .xs .now in
@@ -53,7 +53,7 @@ returns c =
             count = omega (arith, n, h .count, f);
             items =
                 c .of-keys .ensures .0
-                ∙ rw (k, h .places) (first-are xs ys zs m p squares (a .pre .1) e (a .args .limit) (c .before .at-most-11 .result) (omega (arith, n)) (omega (arith, n, h .count)));
+                ∙ rw (k, h .indices) (first-are xs ys zs m p squares (a .pre .1) e (a .args .limit) (c .before .at-most-11 .result) (omega (arith, n)) (omega (arith, n, h .count)));
           }),
       c .of-keys .ensures .1,
     )
@@ -62,8 +62,8 @@ pub first-spec : {M : Type 1} → statement M
 first-spec =
     tie.close
     (tie.spec
-    slice-aggregate-places-within
-    places-within-requires
+    slice-aggregate-indices-within
+    indices-within-requires
     array-share-prefix-at
     slice-aggregate-first-keys
     first-keys-requires

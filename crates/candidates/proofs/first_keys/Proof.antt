@@ -1,4 +1,4 @@
--- `first_keys` meets its contract. The invariant: the keys are the first of those at the first j places.
+-- `first_keys` meets its contract. The invariant: the keys are the first of those at the first j indices.
 use mathlib.Core.Path.{_≡_, refl, sym, ap, _∙_}
 use Prim.Native.Nat.{_-_, _≤_}
 use native.Mathlib.Omega.{arith}

@@ -1,3 +1,4 @@
+-- `cells` meets its contract. The invariant: the first 2 i bytes are those of the first i cells.
 use mathlib.Core.Path.{_≡_, refl, sym, ap, _∙_}
 use Prim.Native.Nat.{_+_, _*_, _-_, _/_, _%_, _≤_}
 use native.Mathlib.Omega.{arith}

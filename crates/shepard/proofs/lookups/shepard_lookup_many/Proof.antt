@@ -11,7 +11,7 @@ returns : tie.Need-returns
 returns c =
     let r = c .before .before in
     let a = r .before .before .before .before .args in
-    answers-none (a .file .now) (r .read .result) (r .read .ensures) (a .places .now) (a .out .now) (c .if1 .taken)
+    answers-none (a .file .now) (r .read .result) (r .read .ensures) (a .locations .now) (a .out .now) (c .if1 .taken)
 
 write-requires : tie.Need-write-requires
 write-requires c κs = search needs
@@ -25,7 +25,7 @@ returns-2 c =
     let h = w .before .before .before in
     let r = h .before .before in
     let a = r .before .before .before .before .args in
-    answers-given (a .file .now) (r .read .result) (r .read .ensures) (a .places .now) (a .out .now) (h .if1 .left) _ _ (w .write .ensures)
+    answers-given (a .file .now) (r .read .result) (r .read .ensures) (a .locations .now) (a .out .now) (h .if1 .left) _ _ (w .write .ensures)
 
 pub shepard-lookup-many-spec : {M : Type 1} → statement M
 shepard-lookup-many-spec =

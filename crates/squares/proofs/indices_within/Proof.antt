@@ -1,4 +1,4 @@
--- `places_within` meets its contract. The invariant: the first k places stored are those of the first i that are within the limit.
+-- `indices_within` meets its contract. The invariant: the first k indices stored are those of the first i that are within the limit.
 use mathlib.Core.Path.{_≡_, refl, sym, ap, _∙_}
 use mathlib.Core.Bool.{Bool}
 use Prim.Native.Nat.{ℕ, _-_, _≤_}
@@ -6,20 +6,20 @@ use native.Mathlib.Omega.{arith}
 use lib.ListN.{length, take, getD, length-set}
 use lib.Seq.{length-take-le}
 use borrow.Author.Needs.{needs}
-use Rattle.squares.specs.Squares.{within, placesOf}
-use Rattle.squares.proofs.Counting.{places-more, byte-most}
-use Rattle.squares.proofs.places_within.Statement.{statement}
-use Rattle.squares.proofs.places_within.Tie as tie
+use Rattle.squares.specs.Squares.{within, indicesOf}
+use Rattle.squares.proofs.Counting.{indices-more, byte-most}
+use Rattle.squares.proofs.indices_within.Statement.{statement}
+use Rattle.squares.proofs.indices_within.Tie as tie
 
 abbrev Inv-loop : tie.InvT-loop
 Inv-loop squares limit at₀ k₀ i₀ at k i =
-    (i ≤ length squares) × (k ≤ i) × (length at ≡ 256) × (take k at ≡ placesOf (λ j. within limit (getD squares j 0)) i)
+    (i ≤ length squares) × (k ≤ i) × (length at ≡ 256) × (take k at ≡ indicesOf (λ j. within limit (getD squares j 0)) i)
 
 abbrev μ-loop : tie.MeasureT-loop
 μ-loop squares limit at₀ k₀ i₀ at k i = length squares - i
 
 loop-holds : tie.Need-loop-holds Inv-loop μ-loop
-unfolding placesOf
+unfolding indicesOf
 loop-holds c = (omega arith, omega arith, c .pre .1, refl)
 
 cast-at : tie.Need-cast-at Inv-loop μ-loop
@@ -56,7 +56,7 @@ loop-again c =
       omega arith,
       omega (arith, byte-most (t (l .i))),
       simp length-set (l .inv .2),
-      places-more t (l .at) (l .k) (l .i) (omega arith) (l .inv .3),
+      indices-more t (l .at) (l .k) (l .i) (omega arith) (l .inv .3),
     )
 
 same-length : tie.Need-same-length Inv-loop μ-loop
@@ -68,11 +68,11 @@ returns c =
     let a = c .before .before .args in
     let t : ℕ → Bool = λ j. within (a .limit) (getD (a .squares .now) j 0) in
     let e : l .i ≡ length (a .squares .now) = omega arith in
-    let p : take (l .k) (l .at) ≡ placesOf t (length (a .squares .now)) = rw e at (l .inv .3) in
-    record { count = sym (length-take-le (l .k) (l .at) (omega arith)) ∙ ap length p; places = p }
+    let p : take (l .k) (l .at) ≡ indicesOf t (length (a .squares .now)) = rw e at (l .inv .3) in
+    record { count = sym (length-take-le (l .k) (l .at) (omega arith)) ∙ ap length p; indices = p }
 
-pub places-within-spec : {M : Type 1} → statement M
-places-within-spec =
+pub indices-within-spec : {M : Type 1} → statement M
+indices-within-spec =
     tie.close
     (tie.spec
     Inv-loop

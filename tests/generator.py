@@ -1,0 +1,49 @@
+"""Makes the tests of a seed: lists of calls for shepard_replay and inputs for shepard_grid."""
+
+from fractions import Fraction
+
+import grid_inputs
+import journals
+import mixed_calls
+
+JOURNALS = (
+    ("examples", journals.example_journal, 2),
+    ("lookups", journals.lookup_journal, 400),
+    ("mixed calls", mixed_calls.mixed_journal, 128),
+    ("full survey", journals.full_journal, 10),
+    ("damaged files", journals.damaged_journal, 105),
+    ("grids", journals.grid_journal, 70),
+    ("widest grid", journals.widest_grid_journal, 2),
+    ("bad journal", journals.bad_journal, 60),
+)
+GRID_INPUTS = (
+    ("whole case", grid_inputs.whole_case, 2),
+    ("grid inputs", grid_inputs.sound_input, 112),
+    ("empty surveys", grid_inputs.empty_input, 24),
+    ("short preambles", grid_inputs.short_preamble_input, 20),
+    ("damaged grid inputs", grid_inputs.damaged_input, 340),
+)
+
+
+def share_of(count, divisor):
+    """So many of a kind for a smaller run; never fewer than two."""
+    return max(2, count // divisor)
+
+
+def make_test(rng, kind, maker, index):
+    made = maker(rng, index)
+    if isinstance(made, bytes):
+        return grid_inputs.GridInput(kind, made, maker is grid_inputs.damaged_input)
+    bad = journals.bad_end(rng) if maker is journals.bad_journal else b""
+    return journals.Journal(kind, made, bad)
+
+
+def make(rng, divisor=1):
+    """All tests of a run, each kind spread evenly over it."""
+    spread = []
+    for kind, maker, whole in JOURNALS + GRID_INPUTS:
+        count = share_of(whole, divisor)
+        for index in range(count):
+            spread.append((Fraction(2 * index + 1, 2 * count), make_test(rng, kind, maker, index)))
+    spread.sort(key=lambda each: each[0])
+    return [test for _, test in spread]

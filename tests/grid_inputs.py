@@ -1,0 +1,58 @@
+"""Makes inputs for shepard_grid: sound ones, empty surveys, short preambles and damaged files."""
+
+from struct import pack
+from typing import NamedTuple
+
+import damage
+import exact
+import surveys
+from grids import grid_near, improper_grid, proper_grid
+
+
+class GridInput(NamedTuple):
+    """A whole standard input of shepard_grid."""
+
+    kind: str
+    data: bytes
+    damaged: bool = False
+
+
+def grid_preamble(rng):
+    """The six numbers and, at times, more; or too few bytes."""
+    numbers = pack(">6H", *(improper_grid(rng) if rng.randrange(4) == 0 else proper_grid(rng)))
+    longer, shorter = numbers + damage.random_preamble(rng), numbers[: rng.randrange(12)]
+    return rng.choice((numbers, numbers, longer, shorter))
+
+
+def short_preamble_input(rng, index):
+    """Fewer than 12 bytes before the first record, which together with it read as a proper grid."""
+    numbers = pack(">6H", *proper_grid(rng))
+    rows = int.from_bytes(numbers[10:], "big")
+    points = [exact.Point(rows, rng.randrange(4096), 3), exact.Point(4095, 9, -4)]
+    if rng.randrange(2):
+        return damage.assemble(numbers[:10], damage.records_of(points))
+    # The high byte of the first x stands for the low byte of the rows.
+    points[0] = exact.Point(256 * rng.randint(1, 8), 1, 2)
+    return damage.assemble(numbers[:10] + b"\0", damage.records_of(points))
+
+
+def sound_input(rng, index):
+    points, _ = surveys.make(rng, surveys.KINDS[index % len(surveys.KINDS)])
+    preamble = pack(">6H", *grid_near(rng, points)) if rng.randrange(2) else grid_preamble(rng)
+    return damage.assemble(preamble, damage.records_of(points))
+
+
+def empty_input(rng, index):
+    """No record: 6, unless the grid or the preamble is at fault."""
+    preamble = grid_preamble(rng) if index % 2 else pack(">6H", *proper_grid(rng))
+    return damage.assemble(preamble, [])
+
+
+def damaged_input(rng, index):
+    return damage.damage(rng, grid_preamble(rng), damage.few_points(rng))
+
+
+def whole_case(rng, index):
+    """Document 01's whole case, and no input at all."""
+    case = "0000 0000 0001 0001 0002 0001 0003 0000 F9 0001 00000005 00FC 524C5331"
+    return (bytes.fromhex(case), b"")[index]

@@ -1,0 +1,59 @@
+"""Makes random calls: lookups, grids, and those after which given points are present."""
+
+import damage
+import protocol
+import surveys
+from protocol import Call
+
+# Enough lent bytes for the file of any survey, and for that of any grid.
+ANY_SURVEY = 256 * 5 + 12
+ANY_GRID = 2 * 64 * 64 + 20
+
+
+def lookup_call(rng, location):
+    """With neighbours or without, most often lent enough records."""
+    if rng.randrange(2):
+        return Call("q", location)
+    return Call("n", (*location, rng.choice((10, 10, 10, 10, 11, 32, 0, 9))))
+
+
+def lookup_calls(rng, points, aimed, count):
+    calls = [lookup_call(rng, location) for location in aimed]
+    while len(calls) < count:
+        if rng.randrange(25):
+            location = surveys.location_near(rng, points)
+        else:
+            location = surveys.off_domain(rng)
+        calls.append(lookup_call(rng, location))
+    return calls
+
+
+def entry(rng, points):
+    """Calls after which the points are present, straight or by detours."""
+    if rng.randrange(4) == 0:
+        return [protocol.load(damage.sound_file(rng, points))]
+    calls = []
+    for point in points:
+        detour = rng.randrange(10)
+        if detour == 0:
+            calls.append(Call("a", (point.x, point.y, rng.randint(-128, 127))))
+            calls.append(Call("c", point))
+        elif detour == 1:
+            calls += [Call("a", point), Call("d", point[:2]), Call("a", point)]
+        else:
+            calls.append(Call("a", point))
+    return calls
+
+
+def lent_about(rng, needed, most):
+    """How much is lent: the exact need, one less, one more, none, or more."""
+    choices = (needed, needed, needed + 1, needed + 9, needed - 1, 0)
+    return min(max(rng.choice(choices), 0), most)
+
+
+def grid_calls(rng, numbers):
+    """The grid and its file, each lent about what it needs."""
+    cells = min(numbers[4] * numbers[5], 4096)
+    grid = Call("g", (*numbers, lent_about(rng, cells, protocol.MOST_LENT["g"])))
+    file = Call("f", (*numbers, lent_about(rng, 2 * cells + 20, protocol.MOST_LENT["f"])))
+    return rng.sample((grid, file), rng.choice((1, 2, 2)))
