@@ -8,3 +8,4 @@ pub mod Whole
 pub mod SumLaws
 pub mod Bounds
 pub mod Absolute
+pub mod Search

@@ -24,24 +24,6 @@ fn at_most(m: u64, y: f64) -> bool
     to_float(m) <= y
 }
 
-// The whole part, found by halving what it can be.
-fn searched(y: f64) -> u64
-    requires { ⌜ T (plain y) × (num y < 4194304 * den y) ⌝ }
-    ensures { λ k. ⌜ (k ≡ num y / den y) × (k < 4194304) ⌝ }
-{
-    let mut low = 0u64;
-    let mut high = 4194304u64;
-    while high - low > 1 {
-        let m = low + (high - low) / 2;
-        if at_most(m, y) {
-            low = m;
-        } else {
-            high = m;
-        }
-    }
-    low
-}
-
 // A number to try first: the last digit of y - 1/2 + 2⁵² counts 1, so that its last digits are mostly the whole part of y. Nothing rests on it.
 pub fn guess(y: f64) -> u64
     ensures { λ k. ⌜ k < 33554432 ⌝ }
@@ -53,18 +35,26 @@ pub fn guess(y: f64) -> u64
     0
 }
 
-// The whole part of a float that is not negative and below 4,194,304: the guess where comparing bears it out, and otherwise by a search.
+// The whole part of a float that is not negative and below 4,194,304. A number is tried, first the guess and then the middle of what is left, until it is at most y and the next one is not.
 pub fn whole_part(y: f64) -> u64
     requires { ⌜ T (plain y) × (num y < 4194304 * den y) ⌝ }
     ensures { λ k. ⌜ (k ≡ num y / den y) × (k < 4194304) ⌝ }
 {
-    let k = guess(y);
-    if at_most(k, y) {
-        if !at_most(k + 1, y) {
-            return k;
+    let mut low = 0u64;
+    let mut high = 33554432u64;
+    let mut k = guess(y);
+    let w = loop {
+        if at_most(k, y) {
+            if !at_most(k + 1, y) {
+                break k;
+            }
+            low = k + 1;
+        } else {
+            high = k;
         }
-    }
-    searched(y)
+        k = low + (high - low) / 2;
+    };
+    w
 }
 
 // The whole number nearest to half of y: to 256 times the mean, where y is 512 times the mean.

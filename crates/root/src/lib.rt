@@ -5,26 +5,6 @@ ghost use lib.Dec.{leb};
 ghost use Rattle.model.specs.Distance.{root, distanceOf};
 ghost use Rattle.model.specs.Radius.{radiusOf};
 
-// The greatest whole number whose square does not exceed n, one bit at a time from the highest that it can have.
-fn searched(n: u64) -> u64
-    requires { ⌜ n < 2 ^ 50 ⌝ }
-    ensures { λ r. ⌜ (r ≡ root n) × (r < 2 ^ 25) ⌝ }
-{
-    let mut r: u64 = 0;
-    let mut k: u64 = 25;
-    let d = loop {
-        if k == 0 {
-            break r;
-        }
-        k -= 1;
-        let t = r + (1u64 << k);
-        if t * t <= n {
-            r = t;
-        }
-    };
-    d
-}
-
 // A number to try first: three of Newton's steps from a float that has half of n's exponent, and a little more, so that a whole root is not missed. Nothing rests on it.
 // n as a float is 2⁵² + n, by its bit pattern, less 2⁵²: a conversion would wait for the root before. The second pattern is about half of that of 1.
 fn guess(n: u64) -> u64
@@ -42,18 +22,26 @@ fn guess(n: u64) -> u64
     0
 }
 
-// The same of every n below 2⁵⁰: the guess where comparing bears it out, and otherwise by a search.
+// The greatest whole number whose square does not exceed n. A number is tried, first the guess and then the middle of what is left, until it and the next one are on either side.
 pub fn root_of(n: u64) -> u64
     requires { ⌜ n < 2 ^ 50 ⌝ }
     ensures { λ r. ⌜ (r ≡ root n) × (r < 2 ^ 25) ⌝ }
 {
-    let r = guess(n);
-    if r * r <= n {
-        if n < (r + 1) * (r + 1) {
-            return r;
+    let mut low: u64 = 0;
+    let mut high: u64 = 33554432;
+    let mut r = guess(n);
+    let d = loop {
+        if r * r <= n {
+            if n < (r + 1) * (r + 1) {
+                break r;
+            }
+            low = r + 1;
+        } else {
+            high = r;
         }
-    }
-    searched(n)
+        r = low + (high - low) / 2;
+    };
+    d
 }
 
 // D of a squared distance.
