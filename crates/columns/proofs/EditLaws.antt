@@ -15,7 +15,7 @@ use Rattle.columns.specs.Columns.{held, wrapped, pointsIn, AsHeld}
 use Rattle.columns.proofs.HeldLaws.{length-held, wrapped-one}
 use Rattle.columns.proofs.ReadLaws.{length-points}
 
--- three arrays of 256 places each
+-- three arrays of 256 elements each
 pub record Sized (xs ys : List ℕ) (zs : List ℤ) : Type 0 where
   pub x : length xs ≡ 256
   pub y : length ys ≡ 256
@@ -29,7 +29,7 @@ shifted-point (suc i) zero x y z f g h = refl
 shifted-point (suc i) (suc k) x y z f g h = shifted-point i k x y z (λ j. f (suc j)) (λ j. g (suc j)) (λ j. h (suc j))
 
 module _ (xs ys : List ℕ) (zs : List ℤ) where
-  -- the first n points are in the first k places
+  -- the first n points are those of the first k elements
   held-take : (k n : ℕ) → n ≤ k → held (take k xs) (take k ys) (take k zs) n ≡ held xs ys zs n
   unfolding held
   held-take k n h = tabulate-same _ _ n (λ i l. let g : i < k = omega arith in rw (getD-take k xs i 0 g, getD-take k ys i 0 g, getD-take k zs i (pos 0) g))

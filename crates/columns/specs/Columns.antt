@@ -7,7 +7,7 @@ use lib.ListN.{getD}
 use Rattle.model.specs.Lists.{tabulate}
 use Rattle.model.specs.Point.{Point, State, point, surveyOf}
 
--- as they stand: the first n places
+-- as they stand: the first n elements
 unfoldable pub held : List ℕ → List ℕ → List ℤ → ℕ → List Point
 unfolding tabulate
 held xs ys zs n = tabulate (λ i. point (getD xs i 0) (getD ys i 0) (getD zs i (pos 0))) n

@@ -21,7 +21,7 @@ use Rattle.error_bound.proofs.MeanError.{weights-pos, scaled-reach, sca
 pub weights-of : (h : Neighbourhood) → Fair h → Weights (h .count) (weightF h) (weight h)
 weights-of h F =
     let a = weight-above h F in
-    record { most = F .most; close = weight-close h F; place = a .place; chosen = a .chosen; above = a .above }
+    record { most = F .most; close = weight-close h F; index = a .index; chosen = a .chosen; above = a .above }
 
 -- value i less the least, exactly
 abbrev pub lessened : Neighbourhood → ℤ → ℕ → Fraction

@@ -36,7 +36,7 @@ scaled-most h p q H P =
     omega arith
 
 pub weights-pos : (n : ℕ) (w : ℕ → Float) (p : ℕ → Fraction) → Weights n w p → 0 < sum p n .top
-weights-pos n w p W = sum-pos p n (W .place) (λ i l. W .close i l .proper) (W .chosen) (W .above)
+weights-pos n w p W = sum-pos p n (W .index) (λ i l. W .close i l .proper) (W .chosen) (W .above)
 
 -- a mean is at most m where each number is
 module _ (n : ℕ) (p f : ℕ → Fraction) (m : ℕ) (F : (i : ℕ) → i < n → f i .top ≤ f i .bot * m) where

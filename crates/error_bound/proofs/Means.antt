@@ -17,9 +17,9 @@ meanOf n p f = over (sum (timesAt p f) n) (sum p n)
 pub record Weights (n : ℕ) (w : ℕ → Float) (p : ℕ → Fraction) : Type 0 where
   pub most : n ≤ 10
   pub close : (i : ℕ) → i < n → Close 50 333 297 (w i) (p i)
-  pub place : ℕ
-  pub chosen : place < n
-  pub above : 0 < p place .top
+  pub index : ℕ
+  pub chosen : index < n
+  pub above : 0 < p index .top
 
 -- floats x, each close to a fraction f that is at most 511
 pub record Numbers (n : ℕ) (x : ℕ → Float) (f : ℕ → Fraction) : Type 0 where

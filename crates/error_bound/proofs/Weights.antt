@@ -24,15 +24,15 @@ ten k d u n g h N K D U c = weaken (omega arith) (le-refl d) (omega arith) (sum-
 
 -- a point whose weight is above zero
 pub record Weighty (h : Neighbourhood) : Type 0 where
-  pub place : ℕ
-  pub chosen : place < h .count
-  pub above : 0 < weight h place .top
+  pub index : ℕ
+  pub chosen : index < h .count
+  pub above : 0 < weight h index .top
 
 -- a point that is not at the edge
 record Inner (f : ℕ → Influence) (n : ℕ) : Type 0 where
-  place : ℕ
-  chosen : place < n
-  apart : isEdge (f place) ≡ false
+  index : ℕ
+  chosen : index < n
+  apart : isEdge (f index) ≡ false
 
 inner-of : (f : ℕ → Influence) (n : ℕ) → allEdge f n ≡ false → Inner f n
 unfolding allEdge
@@ -40,8 +40,8 @@ inner-of f zero e = absurd (true≢false e)
 inner-of f (suc n) e = go (allEdge f n) (isEdge (f n)) (λ p. inner-of f n p) refl e
   where
     go : (a b : Bool) → (a ≡ false → Inner f n) → isEdge (f n) ≡ b → a && b ≡ false → Inner f (suc n)
-    go a false r q h = record { place = n; chosen = lt-suc-self n; apart = q }
-    go false true r q h = let m = r refl in record { place = m .place; chosen = omega (arith, m .chosen); apart = m .apart }
+    go a false r q h = record { index = n; chosen = lt-suc-self n; apart = q }
+    go false true r q h = let m = r refl in record { index = m .index; chosen = omega (arith, m .chosen); apart = m .apart }
     go true true r q h = absurd (true≢false h)
 
 module _ (h : Neighbourhood) (F : Fair h) where
@@ -59,11 +59,11 @@ module _ (h : Neighbourhood) (F : Fair h) where
       go false = mul-close (factors j l) (part-close (h .excess i j) (h .product i j) (F .excesses i j k l) (F .products i j k l .0) (F .products i j k l .1)) tt
 
   module _ (m : Inner (h .influence) (h .count)) where
-    inner-factor : 0 < factorAt h (m .place) .top
-    inner-factor = factor-pos (h .influence (m .place)) (F .influences (m .place) (m .chosen)) (m .apart)
+    inner-factor : 0 < factorAt h (m .index) .top
+    inner-factor = factor-pos (h .influence (m .index)) (F .influences (m .index) (m .chosen)) (m .apart)
 
     factors-pos : 0 < sum (factorAt h) (h .count) .top
-    factors-pos = sum-pos (factorAt h) (h .count) (m .place) (λ i l. factors i l .proper) (m .chosen) inner-factor
+    factors-pos = sum-pos (factorAt h) (h .count) (m .index) (λ i l. factors i l .proper) (m .chosen) inner-factor
 
     directional-close : (i : ℕ) → i < h .count → Close 35 185 190 (div binary64 (sumF (termF h i) (h .count)) (sumF (factorAtF h) (h .count))) (directional h i)
     unfolding directional
@@ -78,12 +78,12 @@ module _ (h : Neighbourhood) (F : Fair h) where
     unfolding productF
     product-close i l = mul-close (mul-close (factors i l) (factors i l) tt) (add-close one-close (directional-close i l) tt) tt
 
-    product-pos : 0 < times (times (factorAt h (m .place)) (factorAt h (m .place))) (plus (whole 1) (directional h (m .place))) .top
+    product-pos : 0 < times (times (factorAt h (m .index)) (factorAt h (m .index))) (plus (whole 1) (directional h (m .index))) .top
     unfolding times plus whole
     product-pos =
-        let t = directional h (m .place) in
+        let t = directional h (m .index) in
         mul-pos (mul-pos inner-factor inner-factor)
-        (lt-of-lt-of-le (directional-close (m .place) (m .chosen) .proper) (le-trans (le-of-eq (sym (one-mul (t .bot)))) (le-add-right (1 * t .bot) (t .top * 1))))
+        (lt-of-lt-of-le (directional-close (m .index) (m .chosen) .proper) (le-trans (le-of-eq (sym (one-mul (t .bot)))) (le-add-right (1 * t .bot) (t .top * 1))))
 
   pub weight-close : (i : ℕ) → i < h .count → Close 50 333 297 (weightF h i) (weight h i)
   unfolding weightF weight
@@ -99,7 +99,7 @@ module _ (h : Neighbourhood) (F : Fair h) where
   weight-above = go (allEdge (h .influence) (h .count)) refl
     where
       go : (b : Bool) → allEdge (h .influence) (h .count) ≡ b → Weighty h
-      go true e = record { place = 0; chosen = F .some; above = unfold weight whole in rw e (lit< tt) }
+      go true e = record { index = 0; chosen = F .some; above = unfold weight whole in rw e (lit< tt) }
       go false e =
           let m = inner-of (h .influence) (h .count) e in
-          record { place = m .place; chosen = m .chosen; above = unfold weight in rw e (product-pos m) }
+          record { index = m .index; chosen = m .chosen; above = unfold weight in rw e (product-pos m) }

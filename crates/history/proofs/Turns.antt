@@ -43,7 +43,7 @@ pub starts : (j fs : List ℕ) (n : ℕ) → n ≡ length j / 13 → afterAll (r
 unfolding present calls
 starts j fs n e = let m : n - 0 ≡ length j / 13 = omega arith in rw m
 
--- the record at index i, read at its place
+-- the record at index i, read where it stands
 record-at : (j fs : List ℕ) (n i op x y z : ℕ)
     → op ≡ getD j (13 * i) 0 → x ≡ longAt j (13 * i + 1) → y ≡ longAt j (13 * i + 5) → z ≡ longAt j (13 * i + 9)
     → firstCalls (suc n) (drop (13 * i) j) fs
@@ -51,8 +51,8 @@ record-at : (j fs : List ℕ) (n i op x y z : ℕ)
 unfolding firstCalls
 record-at j fs n i op x y z eo ex ey ez =
     let e₀ : getD (drop (13 * i) j) 0 0 ≡ op = rw (getD-drop, add-zero) (sym eo) in
-    let place : 13 * i + 13 ≡ 13 * (i + 1) = omega arith in
-    rw (e₀, ← long-drop j (13 * i) 1, ← ex, ← long-drop j (13 * i) 5, ← ey, ← long-drop j (13 * i) 9, ← ez, drop-drop 13 (13 * i) j, place)
+    let next : 13 * i + 13 ≡ 13 * (i + 1) = omega arith in
+    rw (e₀, ← long-drop j (13 * i) 1, ← ex, ← long-drop j (13 * i) 5, ← ey, ← long-drop j (13 * i) 9, ← ez, drop-drop 13 (13 * i) j, next)
 
 -- a turn makes the call of the record at index i: what the calls from there on leave is the same before it and after it
 pub turn : (j fs : List ℕ) (n i start op x y z end : ℕ) (s t : State) → i < n → start ≤ length fs

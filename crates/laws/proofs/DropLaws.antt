@@ -1,4 +1,4 @@
--- A dropped location may be added again, and its place among the 256 is free.
+-- A dropped location may be added again, and its room among the 256 is free.
 use mathlib.Core.Path.{_≡_, refl, sym, _∙_}
 use Prim.Native.Nat.{ℕ, suc, _<_}
 use native.Mathlib.Omega.{arith}

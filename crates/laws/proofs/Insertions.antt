@@ -1,4 +1,4 @@
--- An element put into a list, or taken out, the others moving by one place; in an array of k places the last one is lost.
+-- An element put into a list, or taken out, the others moving by one; in an array of k elements the last one is lost.
 use mathlib.Core.Path.{_≡_, refl, sym, ap, _∙_}
 use Prim.Native.Nat.{ℕ, zero, suc, _+_, _≤_, _<_}
 use native.Mathlib.Nat.{le-of-suc-le-suc, not-suc-le-zero}
@@ -12,29 +12,29 @@ use Rattle.laws.proofs.ListLaws.{tabulate-front}
 use Rattle.laws.proofs.MapLaws.{take-map, drop-map}
 
 module _ {A : Type 0} where
-  -- e put in at place i
+  -- e put in at index i
   abbrev pub putIn : ℕ → A → List A → List A
   putIn i e l = take i l ++ e ∷ drop i l
 
-  -- the element at place i taken out
+  -- the element at index i taken out
   abbrev pub cutOut : ℕ → List A → List A
   cutOut i l = take i l ++ drop (i + 1) l
 
-  -- the values of f with e put in at place i
+  -- the values of f with e put in at index i
   abbrev pub shifted : ℕ → A → (ℕ → A) → ℕ → A
   shifted zero e f zero = e
   shifted zero e f (suc k) = f k
   shifted (suc i) e f zero = f zero
   shifted (suc i) e f (suc k) = shifted i e (λ j. f (suc j)) k
 
-  -- the element at k is exchanged with the carried one, and the place goes one further
+  -- the element at k is exchanged with the carried one, and the index goes one further
   pub carry-step : (l : List A) (k : ℕ) (c d : A) → k < length l → putIn (k + 1) (getD l k d) (set l k c) ≡ putIn k c l
   carry-step l k c d h = rw (add-one, take-suc-set l k c, drop-set-lt (suc k) l k c (omega arith), append-snoc, drop-cons l k d)
 
   pub carry-end : (l m : List A) (n k : ℕ) (c : A) → length l ≡ n → n ≤ k → putIn k c l ≡ m → l ≡ take n m
   carry-end l m n k c e g h = sym (take-at l (c ∷ drop k l) n e) ∙ ap (take n) (rw (take-all k l (omega arith)) at h)
 
-  -- the element behind k is stored there, and the place goes one further
+  -- the element behind k is stored there, and the index goes one further
   pub cut-step : (l : List A) (k : ℕ) (d : A) → k + 1 < length l → cutOut (k + 1) (set l k (getD l (k + 1) d)) ≡ cutOut k l
   cut-step l k d h =
       let g : suc k < length l = omega arith in

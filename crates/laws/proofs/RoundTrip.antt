@@ -153,9 +153,9 @@ module _ (f : List ℕ) (b : Bytes f) (a : Accepted f) where
 
   ends-again : drop (recordStart f) f ≡ fileOf (filePoints f)
   ends-again =
-      let place : recordStart f + backIn f ≡ trailerStart f = omega arith in
+      let next : recordStart f + backIn f ≡ trailerStart f = omega arith in
       sym (take-append-drop (backIn f) (drop (recordStart f) f))
-      ∙ ap (λ (t : List ℕ). recordsIn f ++ t) (drop-drop (backIn f) (recordStart f) f ∙ ap (λ (k : ℕ). drop k f) place ∙ sym trailer-again)
+      ∙ ap (λ (t : List ℕ). recordsIn f ++ t) (drop-drop (backIn f) (recordStart f) f ∙ ap (λ (k : ℕ). drop k f) next ∙ sym trailer-again)
       ∙ sym (file-by (filePoints f) (recordsIn f) (countIn f) records-again (points-in f (a .trailer)))
 
 pub accepted-ends : (f : List ℕ) → Bytes f → fileRefusal f ≡ 0 → drop (recordStart f) f ≡ fileOf (filePoints f)

@@ -92,14 +92,14 @@ passing-facts f n h =
     let t12 = cond-zero _ 11 _ (t11 .1) in
     let t13 = cond-zero _ 12 _ (t12 .1) in
     let size = or-false _ _ (t9 .0) in
-    let place = or-false _ _ (t12 .0) in (
+    let reach = or-false _ _ (t12 .0) in (
       record {
         least = ltb-false (length f) 12 (size .0);
         most = ltb-false 65536 (length f) (size .1);
         marked = same-true (magicIn f) magic (not-false _ (t10 .0));
         few = ltb-false 256 (countIn f) (t11 .0);
-        back = eqb-true (backIn f) (5 * countIn f) (not-false _ (place .0));
-        room = ltb-false (trailerStart f) (backIn f) (place .1);
+        back = eqb-true (backIn f) (5 * countIn f) (not-false _ (reach .0));
+        room = ltb-false (trailerStart f) (backIn f) (reach .1);
         sum = eqb-true (total (recordsIn f) % 65536) (sumIn f) (not-false _ (t13 .0));
       },
       t13 .1,

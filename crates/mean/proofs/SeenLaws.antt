@@ -1,4 +1,4 @@
--- Weights and mean go by the places below the count only, so the neighbourhood that a struct holds has those of the location that it was chosen for.
+-- Weights and mean go by the indices below the count only, so the neighbourhood that a struct holds has those of the location that it was chosen for.
 use mathlib.Core.Path.{_≡_, refl, sym, ap, ap₂, _∙_}
 use mathlib.Core.Bool.{_&&_}
 use Prim.Native.Nat.{ℕ, zero, suc, _*_, _<_}
@@ -22,7 +22,7 @@ use Rattle.neighbours.specs.declared.Chosen.{Chosen}
 use Rattle.neighbours.specs.Chose.{Chose, neighbourAt}
 use Rattle.weights.specs.Seen.{noNeighbour, itemAt, pointOf, excessBetween, seen, pointsHeld}
 
--- g and h have as many points, and the same at each place
+-- g and h have as many points, and the same at each index
 pub record Agree (g h : Neighbourhood) : Type 0 where
   pub count : g .count ≡ h .count
   pub influence : (i : ℕ) → i < g .count → g .influence i ≡ h .influence i
@@ -68,19 +68,19 @@ points-back s p [] = refl
 points-back s p (a ∷ l) = ap (λ (m : List Point). a ∷ m) (points-back s p l)
 
 module _ (s : State) (px py : ℕ) (c : Chosen) (C : Chose s (location px py) c) where
-  abbrev place : Location
-  place = location px py
+  abbrev p : Location
+  p = location px py
 
   abbrev chosenAt : ℕ → Point
-  chosenAt i = getD (choice s place .points) i (point 0 0 (pos 0))
+  chosenAt i = getD (choice s p .points) i (point 0 0 (pos 0))
 
-  pub item-is : (i : ℕ) → i < c .count → itemAt c i ≡ neighbourAt s place (chosenAt i)
+  pub item-is : (i : ℕ) → i < c .count → itemAt c i ≡ neighbourAt s p (chosenAt i)
   item-is i l =
       sym (getD-take (c .count) (c .items) i noNeighbour l)
       ∙ ap (λ (m : List Neighbour). getD m i noNeighbour) (C .items)
-      ∙ getD-map (neighbourAt s place) (choice s place .points) i noNeighbour (point 0 0 (pos 0)) (rw (C .count) at l)
+      ∙ getD-map (neighbourAt s p) (choice s p .points) i noNeighbour (point 0 0 (pos 0)) (rw (C .count) at l)
 
-  pub seen-agrees : Agree (seen px py c) (neighbourhood s place)
+  pub seen-agrees : Agree (seen px py c) (neighbourhood s p)
   unfolding seen neighbourhood neighbourhoodOf neighbourAt excessBetween excessOf inner
   seen-agrees = record {
     count = C .count;
@@ -90,10 +90,10 @@ module _ (s : State) (px py : ℕ) (c : Chosen) (C : Chose s (location px py) c)
     value = λ i l. ap (λ (a : Neighbour). a .z) (item-is i l);
   }
 
-  pub least-is : valuesBy lesser (pointsHeld c) ≡ leastChosen s place
+  pub least-is : valuesBy lesser (pointsHeld c) ≡ leastChosen s p
   unfolding pointsHeld leastChosen
-  least-is = ap (λ (l : List Neighbour). valuesBy lesser (map pointOf l)) (C .items) ∙ ap (valuesBy lesser) (points-back s place (choice s place .points))
+  least-is = ap (λ (l : List Neighbour). valuesBy lesser (map pointOf l)) (C .items) ∙ ap (valuesBy lesser) (points-back s p (choice s p .points))
 
   -- what `mean_of` works out is the mean at the location
-  pub mean-seen : meanF (seen px py c) (valuesBy lesser (pointsHeld c)) ≡ meanF (neighbourhood s place) (leastChosen s place)
-  mean-seen = mean-same (seen px py c) (neighbourhood s place) seen-agrees (valuesBy lesser (pointsHeld c)) ∙ ap (meanF (neighbourhood s place)) least-is
+  pub mean-seen : meanF (seen px py c) (valuesBy lesser (pointsHeld c)) ≡ meanF (neighbourhood s p) (leastChosen s p)
+  mean-seen = mean-same (seen px py c) (neighbourhood s p) seen-agrees (valuesBy lesser (pointsHeld c)) ∙ ap (meanF (neighbourhood s p)) least-is

@@ -1,4 +1,4 @@
-// Sums of weights and of weighted numbers, over the first n places, and the mean.
+// Sums of weights and of weighted numbers, of the first n, and the mean.
 ghost use mathlib.Core.Path.{_≡_};
 ghost use Prim.Native.Nat.{_≤_};
 ghost use lib.Ieee.{binary64, nan, add, mul, div};

@@ -10,7 +10,7 @@ use lib.ListN.{getD}
 abbrev pub word : ℕ → ℕ → ℕ
 word a b = 256 * a + b
 
--- the number in the two bytes at place i of a list, and in the four
+-- the number in the two bytes at index i of a list, and in the four
 abbrev pub wordAt : List ℕ → ℕ → ℕ
 wordAt f i = word (getD f i 0) (getD f (i + 1) 0)
 

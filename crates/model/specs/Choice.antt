@@ -35,7 +35,7 @@ pub record Choice : Type 0 where
   pub points : List Point
   pub radius : ℕ
 
--- D of the point at place i of the order
+-- D of the point at index i of the order
 unfoldable pub distanceAt : State → Location → ℕ → ℕ
 unfolding distance ordered
 distanceAt s p i = distance s p (getD (ordered s p) i (point 0 0 (pos 0)))

@@ -27,7 +27,7 @@ two x y z u v w = surveyOf (point x y z ∷ point u v w ∷ [])
 abbrev five : State
 five = surveyOf (point 95 100 (pos 0) ∷ point 100 95 (pos 0) ∷ point 100 105 (pos 0) ∷ point 103 104 (pos 98) ∷ point 105 100 (pos 0) ∷ [])
 
--- the twelve whole places at distance 5 from (100,100)
+-- the twelve whole locations at distance 5 from (100,100)
 abbrev ring : List Point
 ring =
     point 95 100 (pos 1) ∷ point 96 97 (pos 2) ∷ point 96 103 (pos 3) ∷ point 97 96 (pos 4) ∷ point 97 104 (pos 5) ∷ point 100 95 (pos 6)

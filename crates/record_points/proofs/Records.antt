@@ -10,7 +10,7 @@ use Rattle.model.specs.Point.{Point, point}
 use Rattle.model.specs.Bytes.{wordAt, signed}
 use Rattle.model.specs.SurveyFile.{pointsOf}
 
--- the record at place k of the bytes
+-- the record from byte k on
 abbrev pub pointAt : List ℕ → ℕ → Point
 pointAt s k = point (wordAt s k) (wordAt s (k + 2)) (signed 128 (getD s (k + 4) 0))
 

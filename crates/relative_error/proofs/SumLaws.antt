@@ -1,4 +1,4 @@
--- Sums over the first n places: one place more, the same parts, and the error of a sum of close floats.
+-- Sums of n parts: one part more, the same parts, and the error of a sum of close floats.
 use mathlib.Core.Path.{_≡_, refl, sym, ap, ap₂, _∙_}
 use Prim.Native.Nat.{ℕ, zero, suc, _+_, _≤_, _<_}
 use native.Mathlib.Nat.{le-refl, le-add-right}
@@ -16,7 +16,7 @@ pub sumF-more : (g : ℕ → Float) (i : ℕ) → sumF g (i + 1) ≡ add binary6
 unfolding sumF
 sumF-more g i = ap (λ (n : ℕ). sumF g n) (add-one i)
 
--- so a loop's sum S and its next part x give the sum of one place more
+-- so a loop's sum S and its next part x give the sum of one part more
 pub sumF-step : (g : ℕ → Float) (i : ℕ) {S x : Float} → S ≡ sumF g i → x ≡ g i → add binary64 S x ≡ sumF g (i + 1)
 sumF-step g i {S} {x} e h = ap (λ (z : Float). add binary64 z x) e ∙ ap (λ (z : Float). add binary64 (sumF g i) z) h ∙ sym (sumF-more g i)
 

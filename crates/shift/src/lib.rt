@@ -1,4 +1,4 @@
-// An element put into an array, and one taken out: the elements from there on move by one place.
+// An element put into an array, and one taken out: the elements from there on move by one.
 ghost use mathlib.Core.Path.{_≡_};
 ghost use mathlib.Core.List.{_++_, _∷_};
 ghost use Prim.Native.Nat.{_+_};

@@ -1,6 +1,6 @@
 -- Facts that the proofs of this crate share.
 pub mod EdgeLaws
-pub mod Places
+pub mod Filling
 pub mod WeightLaws
 pub mod Products
 pub mod RowLaws

@@ -14,10 +14,10 @@ use Rattle.neighbours.specs.declared.Chosen.{Chosen}
 use Rattle.relative_error.proofs.SumLaws.{sumF-zero, sumF-step, sumF-same}
 use Rattle.weights.specs.Seen.{itemAt, cosineGap, seen}
 use Rattle.weights.specs.Lists.{HasFactors, HasTerms}
-use Rattle.weights.proofs.Places.{filled}
+use Rattle.weights.proofs.Filling.{filled}
 use Rattle.weights.proofs.Products.{cosine-gap-comm}
 
--- how far the row of i has come at j, with own its factor, s the factors and g k the |1 - cos| of i and k: t is t₀ with own g k added at each place k
+-- how far the row of i has come at j, with own its factor, s the factors and g k the |1 - cos| of i and k: t is t₀ with own g k added at each index k
 -- below j, and sum has what those below j add
 pub record Row (g : ℕ → Float) (own : Float) (s t₀ t : List Float) (sum : Float) (j : ℕ) : Type 0 where
   pub size : length t ≡ length t₀

@@ -7,10 +7,10 @@ use lib.ListN.{getD}
 use Rattle.model.specs.Weight.{Neighbourhood}
 use Rattle.model.specs.Computed.{sumF, factorAtF, termF}
 
--- the first n places have the factors of the first n
+-- the first n elements are the factors of the first n
 abbrev pub HasFactors : Neighbourhood → List Float → ℕ → Type 0
 HasFactors h s n = (k : ℕ) → k < n → getD s k nan ≡ factorAtF h k
 
--- the first n places have what the first n add to each other's directional terms
+-- the first n elements are what the first n add to each other's directional terms
 abbrev pub HasTerms : Neighbourhood → List Float → ℕ → Type 0
 HasTerms h t n = (k : ℕ) → k < n → getD t k nan ≡ sumF (termF h k) n

@@ -1,4 +1,4 @@
--- `lessened` meets its contract. The loop's invariant: the first i places hold their numbers.
+-- `lessened` meets its contract. The loop's invariant: the first i elements are their numbers.
 use mathlib.Core.Path.{_≡_}
 use Prim.Native.Nat.{ℕ, _-_, _≤_, _<_}
 use native.Mathlib.Nat.{not-suc-le-zero}
@@ -11,7 +11,7 @@ use mir.Facts.{toZ-ofZ}
 use borrow.Author.Needs.{needs}
 use Rattle.model.specs.Computed.{lessenedF}
 use Rattle.weights.specs.Seen.{noNeighbour}
-use Rattle.weights.proofs.Places.{filled}
+use Rattle.weights.proofs.Filling.{filled}
 use Rattle.mean.proofs.value.lessened.Statement.{statement}
 use Rattle.mean.proofs.value.lessened.Tie as tie
 

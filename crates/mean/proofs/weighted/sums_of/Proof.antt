@@ -1,4 +1,4 @@
--- `sums_of` meets its contract. The loop's invariant: the two sums are those of the first i places.
+-- `sums_of` meets its contract. The loop's invariant: the two sums are those of the first i.
 use mathlib.Core.Path.{_≡_, sym}
 use Prim.Native.Nat.{_-_, _≤_}
 use native.Mathlib.Omega.{arith}

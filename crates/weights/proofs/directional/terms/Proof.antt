@@ -1,4 +1,4 @@
--- `terms` meets its contract. The loop's invariant: the first i places have the terms of the first i.
+-- `terms` meets its contract. The loop's invariant: the first i elements are the terms of the first i.
 use mathlib.Core.Path.{_≡_}
 use Prim.Native.Nat.{_-_, _≤_}
 use native.Mathlib.Nat.{not-suc-le-zero}

@@ -1,4 +1,4 @@
--- `weights_apart` meets its contract. The loop's invariant: the first i places hold what the factors, the terms and the total make.
+-- `weights_apart` meets its contract. The loop's invariant: the first i elements are what the factors, the terms and the total make.
 use mathlib.Core.Path.{_≡_, _∙_}
 use Prim.Native.Nat.{ℕ, _-_, _≤_, _<_}
 use native.Mathlib.Nat.{not-suc-le-zero}
@@ -8,7 +8,7 @@ use lib.Ieee.{nan}
 use borrow.Author.Needs.{needs}
 use Rattle.model.specs.Computed.{productF, factorF}
 use Rattle.weights.specs.Seen.{seen}
-use Rattle.weights.proofs.Places.{filled}
+use Rattle.weights.proofs.Filling.{filled}
 use Rattle.weights.proofs.WeightLaws.{weight-is}
 use Rattle.relative_error.proofs.SumLaws.{sumF-same}
 use Rattle.weights.proofs.directional.weights_apart.Statement.{statement}

@@ -1,4 +1,4 @@
--- `factors` meets its contract. The loop's invariant: the first i places hold their factors.
+-- `factors` meets its contract. The loop's invariant: the first i elements are their factors.
 use mathlib.Core.Path.{_≡_}
 use Prim.Native.Nat.{ℕ, _-_, _≤_, _<_}
 use native.Mathlib.Nat.{not-suc-le-zero}
@@ -10,7 +10,7 @@ use Rattle.model.specs.Influence.{influenceAt}
 use Rattle.model.specs.Computed.{factorF}
 use Rattle.weights.specs.Seen.{seen, noNeighbour}
 use Rattle.influence.proofs.InfluenceLaws.{factor-read}
-use Rattle.weights.proofs.Places.{filled}
+use Rattle.weights.proofs.Filling.{filled}
 use Rattle.weights.proofs.factor.factors.Statement.{statement}
 use Rattle.weights.proofs.factor.factors.Tie as tie
 

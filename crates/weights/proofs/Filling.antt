@@ -9,7 +9,7 @@ use lib.ListN.{set, getD, length}
 use lib.Seq.{getD-set-same, getD-set-other}
 use lib.Ieee.{Float, nan}
 
--- a list whose first i places hold g, with g i written at i
+-- a list whose first i elements are those of g, with g i written at i
 pub filled : (g : ℕ → Float) (l : List Float) (i : ℕ) {a : Float} → i < length l → a ≡ g i → ((k : ℕ) → k < i → getD l k nan ≡ g k)
     → (k : ℕ) → k < i + 1 → getD (set l i a) k nan ≡ g k
 filled g l i {a} L e h k b =
