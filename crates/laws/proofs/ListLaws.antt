@@ -73,11 +73,6 @@ module _ {A : Type 0} where
   map-same f g [] h = refl
   map-same f g (a ∷ l) h = rw (h .0, map-same f g l (h .1))
 
-  pub all-tabulate : (P : A → Type 0) (f : ℕ → A) (n : ℕ) → ((i : ℕ) → i < n → P (f i)) → All P (tabulate f n)
-  unfolding tabulate
-  all-tabulate P f zero h = tt
-  all-tabulate P f (suc n) h = all-append P (tabulate f n) (f n ∷ []) (all-tabulate P f n (λ i l. h i (omega arith))) (h n (omega arith), tt)
-
   pub tabulate-same : (f g : ℕ → A) (n : ℕ) → ((i : ℕ) → i < n → f i ≡ g i) → tabulate f n ≡ tabulate g n
   unfolding tabulate
   tabulate-same f g zero h = refl
