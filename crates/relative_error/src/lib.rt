@@ -24,12 +24,12 @@ fn at_most(m: u64, y: f64) -> bool
     to_float(m) <= y
 }
 
-// A number to try first: the last digit of y - 1/2 + 2⁵² counts 1, so that its last digits are mostly the whole part of y. Nothing rests on it.
+// A number to try first: from 2⁵² on the last digit of y - 1/2 + 2⁵² counts 1, so that its last digits are mostly the whole part of y, which is 0 where the sum is less. Nothing rests on it.
 pub fn guess(y: f64) -> u64
     ensures { λ k. ⌜ k < 33554432 ⌝ }
 {
     let t = y - 0.5 + 4503599627370496.0;
-    if 0.0 <= t {
+    if 4503599627370496.0 <= t {
         return f64::to_bits(t) % 33554432;
     }
     0

@@ -1,4 +1,4 @@
--- `guess` meets its contract: a float that compares with 0 is no NaN, so that it has digits.
+-- `guess` meets its contract: a float that compares with another is no NaN, so that it has digits.
 use borrow.Author.Needs.{needs}
 use Rattle.relative_error.proofs.Compare.{compared}
 use Rattle.relative_error.proofs.guess.Statement.{statement}
