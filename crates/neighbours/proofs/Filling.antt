@@ -2,20 +2,19 @@
 use mathlib.Core.Path.{_≡_, sym, ap, _∙_}
 use Prim.Native.Nat.{ℕ, _≤_}
 use native.Mathlib.Omega.{arith}
-use mathlib.Core.Bool.{true, false}
+use mathlib.Core.Bool.{true}
 use mathlib.Core.List.{List, map, map-map}
 use lib.Dec.{leb}
 use lib.ListN.{length, take}
 use lib.Seq.{take-take, length-take-le}
 use Rattle.model.specs.Point.{Location, Point, State, inRange}
 use Rattle.model.specs.Distance.{distance}
-use Rattle.model.specs.Choice.{Choice, ordered, coincident, choiceApart}
-use Rattle.laws.proofs.NearestLaws.{length-ordered, choice-otherwise}
+use Rattle.model.specs.Choice.{Choice, ordered}
+use Rattle.laws.proofs.NearestLaws.{length-ordered}
 use Rattle.neighbours.specs.declared.Neighbour.{Neighbour}
 use Rattle.candidates.specs.declared.Candidates.{Candidates}
 use Rattle.neighbours.specs.declared.Selection.{Selection}
-use Rattle.neighbours.specs.declared.Chosen.{Chosen}
-use Rattle.neighbours.specs.Chose.{neighbourAt, Holds, Chose}
+use Rattle.neighbours.specs.Chose.{neighbourAt, Holds}
 use Rattle.candidates.specs.First.{candidateAt}
 use Rattle.neighbours.specs.Selects.{HoldsEnough, Selects, withDistance}
 use Rattle.laws.proofs.ListLaws.{all-take}
@@ -44,6 +43,3 @@ module _ (s : State) (p : Location) where
         radius = g .radius;
         few = ap (λ (i : ℕ). leb i 4) em;
       }
-
-  pub chose-apart : (c : Chosen) → coincident s p ≡ false → Holds s p (choiceApart s p) c → Chose s p c
-  chose-apart c e g = rw (choice-otherwise s p e) g

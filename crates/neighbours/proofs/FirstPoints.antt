@@ -15,10 +15,11 @@ use Rattle.model.specs.Distance.{squared, distanceOf, distance}
 use Rattle.model.specs.Radius.{initialRadius}
 use Rattle.model.specs.Choice.{ordered, within, distanceAt, choiceApart, startsAt, coincident, choice}
 use Rattle.laws.proofs.ChoiceLaws.{squared-zero, squared-apart}
-use Rattle.laws.proofs.NearestLaws.{length-ordered, within-le, choice-coincident, rule-few, rule-four, rule-some, rule-ten}
+use Rattle.laws.proofs.NearestLaws.{length-ordered, within-le, choice-coincident, choice-otherwise, rule-few, rule-four, rule-some, rule-ten}
 use Rattle.candidates.specs.declared.Candidate.{Candidate}
 use Rattle.candidates.specs.declared.Candidates.{Candidates}
 use Rattle.candidates.specs.First.{candidateAt, noCandidate}
+use Rattle.neighbours.specs.declared.Selection.{Selection}
 use Rattle.neighbours.specs.Selects.{HoldsEnough, Selects}
 use Rattle.laws.proofs.MapLaws.{getD-map}
 
@@ -75,7 +76,11 @@ module _ (s : State) (p : Location) (k : ℕ) (b : Candidates) (h : HoldsEnough 
   pub selects-first : coincident s p ≡ true → Selects s p (choice s p) b (record { count = 1; radius = 0 })
   selects-first e = rw (choice-coincident s p e) (record { held = omega (arith, h .enough, some e); points = refl; radius = refl })
 
-  -- the rules by how many are within R0
+  -- the others
+  pub selects-otherwise : (t : Selection) → coincident s p ≡ false → Selects s p (choiceApart s p) b t → Selects s p (choice s p) b t
+  selects-otherwise t e g = rw (choice-otherwise s p e) g
+
+  -- these by how many are within R0
   distance-at : (i d : ℕ) → i < b .count → d ≡ distanceOf (getD (b .items) i noCandidate .squared) → d ≡ distanceAt s p i
   unfolding distanceAt distance
   distance-at i d g e = e ∙ ap distanceOf (squared-at i g)

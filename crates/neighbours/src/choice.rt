@@ -5,7 +5,7 @@ ghost use Prim.Native.Nat.{ℕ, _≤_};
 ghost use lib.ListN.{length, take};
 ghost use Rattle.model.specs.Point.{State, Location};
 ghost use Rattle.model.specs.Radius.{initialRadius};
-ghost use Rattle.model.specs.Choice.{Choice, coincident as coincidentAt, choiceApart};
+ghost use Rattle.model.specs.Choice.{Choice, choice, coincident as coincidentAt, choiceApart};
 ghost use Rattle.neighbours.specs.Selects.{HoldsEnough, Selects, withDistance};
 ghost use Rattle.neighbours.specs.Chose.{Holds};
 use crate::Chosen;
@@ -15,7 +15,7 @@ use candidates::Candidate;
 use candidates::Candidates;
 
 // Whether a point is at the location: the nearest, if any is.
-pub(crate) fn coincident(b: Candidates) -> bool
+fn coincident(b: Candidates) -> bool
     ensures { λ r. ⌜ ((s : State) (p : Location) (k : ℕ) → HoldsEnough s p k b → r ≡ coincidentAt s p) ⌝ }
 {
     if b.count == 0 {
@@ -26,7 +26,7 @@ pub(crate) fn coincident(b: Candidates) -> bool
     first.squared == 0
 }
 
-// Rules 3 to 5, of m points present and k within R0. R is D of the first point left out, or R0, or 0 where four points or fewer are present.
+// Rules 2 to 5, for a lookup where no point is at the location. m points are present, k of them within R0; R is D of the first point left out, or R0, or 0 where four or fewer are present.
 fn by_count(b: Candidates, m: usize, k: u32, r0: u32) -> Selection
     ensures { λ r. ⌜ r .count ≤ 10 ⌝ }
     ensures { λ r. ⌜ ((s : State) (p : Location) → HoldsEnough s p k b → m ≡ length (s .points) → r0 ≡ initialRadius s → Selects s p (choiceApart s p) b r) ⌝ }
@@ -56,6 +56,20 @@ fn by_count(b: Candidates, m: usize, k: u32, r0: u32) -> Selection
         count: 10,
         radius: root::distance_of(eleventh.squared),
     }
+}
+
+// Rule 1, or the others where no point is at the location.
+pub(crate) fn selected(b: Candidates, m: usize, k: u32, r0: u32) -> Selection
+    ensures { λ r. ⌜ r .count ≤ 10 ⌝ }
+    ensures { λ r. ⌜ ((s : State) (p : Location) → HoldsEnough s p k b → m ≡ length (s .points) → r0 ≡ initialRadius s → Selects s p (choice s p) b r) ⌝ }
+{
+    if coincident(b) {
+        return Selection {
+            count: 1,
+            radius: 0,
+        };
+    }
+    by_count(b, m, k, r0)
 }
 
 fn with_distance(e: Candidate) -> Neighbour
@@ -105,12 +119,4 @@ pub(crate) fn filled(b: Candidates, t: Selection, m: usize) -> Chosen
         radius: t.radius,
         few: m <= 4,
     }
-}
-
-// Rules 2 to 5: the choice where no point is at the location.
-pub(crate) fn apart(b: Candidates, m: usize, k: u32, r0: u32) -> Chosen
-    ensures { λ r. ⌜ ((s : State) (p : Location) → HoldsEnough s p k b → m ≡ length (s .points) → r0 ≡ initialRadius s → Holds s p (choiceApart s p) r) ⌝ }
-{
-    let t = by_count(b, m, k, r0);
-    filled(b, t, m)
 }

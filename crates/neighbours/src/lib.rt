@@ -90,7 +90,7 @@ fn nearest_points<'a>(
     among(xs, ys, zs, &room[..m], r0)
 }
 
-// The neighbours of (px, py). Rules 2 to 5 stand alone in `choice::apart`, for a lookup where no point is at the location.
+// The neighbours of (px, py).
 pub fn choose<'a>(
     xs: &'a [u16; 256],
     ys: &'a [u16; 256],
@@ -105,12 +105,6 @@ pub fn choose<'a>(
     let m = columns::clamped(n);
     let r0 = extent::initial_radius(xs, ys, n);
     let b = nearest_points(xs, ys, zs, n, px, py, r0);
-    if choice::coincident(b.first) {
-        let one = Selection {
-            count: 1,
-            radius: 0,
-        };
-        return choice::filled(b.first, one, m);
-    }
-    choice::apart(b.first, m, b.within, r0)
+    let t = choice::selected(b.first, m, b.within, r0);
+    choice::filled(b.first, t, m)
 }
