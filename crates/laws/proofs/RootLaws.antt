@@ -15,7 +15,7 @@ use Rattle.model.specs.Radius.{IsRadius, radiusOf}
 pub sq-le : {a b : ℕ} → a ≤ b → a * a ≤ b * b
 sq-le h = mul-le-mul h h
 
-pub lt-of-sq-lt : (a b : ℕ) → a * a < b * b → a < b
+lt-of-sq-lt : (a b : ℕ) → a * a < b * b → a < b
 lt-of-sq-lt a b h = elim (decLe b a) [ yes g ↦ absurd (lt-irrefl _ (lt-of-lt-of-le h (sq-le g))) | no g ↦ omega arith ]
 
 -- what IsRoot says determines r
@@ -62,10 +62,16 @@ pub is-root : {n r : ℕ} → IsRoot n r → r ≡ root n
 is-root {n} h = root-unique h (root-is n)
 
 -- to compare a root with a bound takes no root
+pub root-above : (n r : ℕ) → r * r ≤ n → r ≤ root n
+root-above n r h = let g : r < root n + 1 = lt-of-sq-lt r (root n + 1) (lt-of-le-of-lt h (root-is n .high)) in omega arith
+
+pub root-below : (n r : ℕ) → n < r * r → root n < r
+root-below n r h = lt-of-sq-lt (root n) r (lt-of-le-of-lt (root-is n .low) h)
+
 pub root-le-iff : (n b : ℕ) → (root n ≤ b) ↔ (n < (b + 1) * (b + 1))
 root-le-iff n b = (
   (λ h. lt-of-lt-of-le (root-is n .high) (sq-le {a = root n + 1} {b = b + 1} (omega arith))),
-  λ h. let l : root n < b + 1 = lt-of-sq-lt (root n) (b + 1) (lt-of-le-of-lt (root-is n .low) h) in omega arith,
+  λ h. let l = root-below n (b + 1) h in omega arith,
 )
 
 -- D ≤ R0 without a root
@@ -85,11 +91,7 @@ pub root-quotient-low : (a b : ℕ) → 0 < b → root (a / b) * root (a / b) * 
 root-quotient-low a b pos = le-div-iff-mul-le pos .0 (root-is (a / b) .low)
 
 pub root-quotient-high : (a b r : ℕ) → 0 < b → r * r * b ≤ a → r ≤ root (a / b)
-root-quotient-high a b r pos h =
-    let g : r * r ≤ a / b = le-div-iff-mul-le pos .1 h in
-    let u : a / b < (root (a / b) + 1) * (root (a / b) + 1) = root-is (a / b) .high in
-    let l : r < root (a / b) + 1 = lt-of-sq-lt r (root (a / b) + 1) (omega arith) in
-    omega arith
+root-quotient-high a b r pos h = root-above (a / b) r (le-div-iff-mul-le pos .1 h)
 
 -- R0 as document 01 has it
 pub radius-is : (a n : ℕ) → 0 < n → IsRadius a n (radiusOf a n)

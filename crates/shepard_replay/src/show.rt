@@ -3,22 +3,11 @@ ghost use Prim.Native.Nat.{_≤_};
 use records::Record;
 use text::chunk;
 
-fn each_byte(lent: &[u8]) {
-    let mut line = [0u8; 2048];
-    let mut n = 0usize;
-    let mut i = 0usize;
-    while i < lent.len() {
-        n = chunk::hexadecimal(&mut line, n, lent[i]);
-        i += 1;
-    }
-    chunk::write(&line, n);
-}
-
 pub fn bytes(lent: &[u8]) {
     text::word(b"bytes");
     if 0 < lent.len() {
         text::space();
-        each_byte(lent);
+        text::hexadecimal(lent);
     }
     text::line_feed();
 }

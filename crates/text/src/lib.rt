@@ -24,3 +24,14 @@ pub fn signed(a: i16) {
     let n = chunk::signed(&mut digits, 0, a);
     chunk::write(&digits, n);
 }
+
+pub fn hexadecimal(list: &[u8]) {
+    let mut line = [0u8; 2048];
+    let mut n = 0usize;
+    let mut i = 0usize;
+    while i < list.len() {
+        n = chunk::hexadecimal(&mut line, n, list[i]);
+        i += 1;
+    }
+    chunk::write(&line, n);
+}

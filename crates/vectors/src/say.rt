@@ -81,21 +81,7 @@ pub fn written(w: Written) {
     }
 }
 
-const DIGITS: [u8; 16] = *b"0123456789ABCDEF";
-
-// A byte in two hexadecimal digits.
-fn byte(b: u8) {
-    let high = (b / 16) as usize;
-    let low = (b % 16) as usize;
-    text::word(&[DIGITS[high], DIGITS[low]]);
-}
-
-// Bytes in hexadecimal.
 pub fn bytes(list: &[u8]) {
     text::space();
-    let mut i = 0usize;
-    while i < list.len() {
-        byte(list[i]);
-        i += 1;
-    }
+    text::hexadecimal(list);
 }

@@ -1,11 +1,10 @@
 -- `root_of` meets its contract. The invariant: the root lies from `low` up to, and not at, `high`, and so does the number that is tried. The measure is their distance.
 use mathlib.Core.Logic.{⊎-elim}
 use Prim.Native.Nat.{ℕ, _+_, _-_, _*_, _≤_, _<_}
-use native.Mathlib.Nat.{lt-of-le-of-lt}
 use native.Mathlib.Omega.{arith}
 use borrow.Author.Needs.{needs}
 use Rattle.model.specs.Distance.{root}
-use Rattle.laws.proofs.RootLaws.{sq-le, lt-of-sq-lt, root-is, is-root}
+use Rattle.laws.proofs.RootLaws.{sq-le, root-above, root-below, is-root}
 use Rattle.relative_error.proofs.Search.{Narrower}
 use Rattle.root.proofs.root_of.Statement.{statement}
 use Rattle.root.proofs.root_of.Tie as tie
@@ -18,12 +17,6 @@ Inv-loop n low₀ high₀ r₀ low high r = (low ≤ root n) × (root n < high) 
 
 abbrev μ-loop : tie.MeasureT-loop
 μ-loop n low₀ high₀ r₀ low high r = high - low
-
-root-below : (n r : ℕ) → n < r * r → root n < r
-root-below n r h = lt-of-sq-lt (root n) r (lt-of-le-of-lt (root-is n .low) h)
-
-root-above : (n r : ℕ) → r * r ≤ n → r ≤ root n
-root-above n r h = let g : r < root n + 1 = lt-of-sq-lt r (root n + 1) (lt-of-le-of-lt h (root-is n .high)) in omega arith
 
 narrowed : (c : lts.After-row-known2 (guess-reads.Asked, guess-reads.Learnt) reads.Pre reads.Post Inv-loop μ-loop)
     → Narrower (root (c .before .before .before .before .before .args .n)) (c .before .before .before .loop .low) (c .before .before .before .loop .high)

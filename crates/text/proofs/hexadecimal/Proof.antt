@@ -1,16 +1,16 @@
--- `shepard_replay::show::each_byte` is safe and ends: a turn for each byte. Nothing has to hold from turn to turn.
+-- `hexadecimal` is safe and ends: a turn for each byte. Nothing has to hold from turn to turn.
 use Prim.Native.Nat.{_-_}
 use borrow.Author.Needs.{needs}
 use native.Mathlib.Omega.{arith}
 use lib.ListN.{length}
-use Rattle.shepard_replay.proofs.show.each_byte.Statement.{statement}
-use Rattle.shepard_replay.proofs.show.each_byte.Tie as tie
+use Rattle.text.proofs.hexadecimal.Statement.{statement}
+use Rattle.text.proofs.hexadecimal.Tie as tie
 
 abbrev Inv-loop : tie.InvT-loop
-Inv-loop lent line₀ n₀ i₀ line n i = Unit {0}
+Inv-loop list line₀ n₀ i₀ line n i = Unit {0}
 
 abbrev μ-loop : tie.MeasureT-loop
-μ-loop lent line₀ n₀ i₀ line n i = length lent - i
+μ-loop list line₀ n₀ i₀ line n i = length list - i
 
 loop-holds : tie.Need-loop-holds Inv-loop μ-loop
 loop-holds c = tt
@@ -36,8 +36,8 @@ write-requires c κs = tt
 returns : tie.Need-returns Inv-loop μ-loop
 returns c = tt
 
-pub each-byte-spec : {M : Type 1} → statement M
-each-byte-spec =
+pub hexadecimal-spec : {M : Type 1} → statement M
+hexadecimal-spec =
     tie.close
     (tie.spec
     Inv-loop
