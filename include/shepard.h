@@ -10,8 +10,8 @@
  *   11  its count is above 256
  *   12  its back distance is not 5 times the count, or is more than the bytes before the trailer
  *   13  the sum of its record bytes differs
- *   14  a record is off the domain
- *   15  a record is not after the one before
+ *   14  a record is off the domain, and
+ *   15  a record is not after the one before: tried record by record, 14 first, so that the first record at fault decides
  *    1  a location is off the domain: x and y are 0 to 4,095
  *    2  a value is out of range: z is -128 to 127
  *    3  an add where a point is already

@@ -1,13 +1,19 @@
 """Works out in whole numbers and fractions, from document 01 alone, what each lookup must give."""
 
+from __future__ import annotations
+
+from collections.abc import Iterable, Sequence
 from fractions import Fraction
 from math import isqrt, lcm
 from typing import NamedTuple
+
+from metric import Location, Metric, Offset
 
 GREATEST_COORDINATE = 4095
 LEAST_VALUE, GREATEST_VALUE = -128, 127
 MOST_POINTS = 256
 FEWEST_NEIGHBOURS, MOST_NEIGHBOURS = 4, 10
+LAST_REFUSAL = 15
 
 COINCIDENT, INVERSE, TAPERED, EDGE = 0, 1, 2, 3
 
@@ -15,7 +21,7 @@ COINCIDENT, INVERSE, TAPERED, EDGE = 0, 1, 2, 3
 class Refused(Exception):
     """A refused call: nothing but its number comes out, and nothing is altered."""
 
-    def __init__(self, number):
+    def __init__(self, number: int) -> None:
         super().__init__(number)
         self.number = number
 
@@ -37,29 +43,34 @@ class Neighbour(NamedTuple):
 class Lookup(NamedTuple):
     mean: Fraction
     radius: int
-    neighbours: tuple
+    neighbours: tuple[Neighbour, ...]
 
 
-def on_domain(x, y):
+# A point with its d² first, and one with its D last.
+Ordered = tuple[int, int, int, int]
+Candidate = tuple[int, int, int, int]
+
+
+def on_domain(x: int, y: int) -> bool:
     return 0 <= x <= GREATEST_COORDINATE and 0 <= y <= GREATEST_COORDINATE
 
 
 # Distance and search radius, in 256ths of a step.
 
 
-def distance(squared):
+def distance(squared: int) -> int:
     """D, from d²."""
     return isqrt(65_536 * squared)
 
 
-def area(points):
+def area(points: Sequence[Point]) -> int:
     """The area of the smallest upright rectangle around the points."""
     xs = [point.x for point in points]
     ys = [point.y for point in points]
     return (max(xs) - min(xs)) * (max(ys) - min(ys))
 
 
-def initial_radius(points):
+def initial_radius(points: Sequence[Point]) -> int:
     """R0. The root of the whole quotient is the root of the quotient, rounded down."""
     return isqrt(65_536 * 7 * 113 * area(points) // (355 * len(points)))
 
@@ -67,15 +78,17 @@ def initial_radius(points):
 # Who is chosen.
 
 
-def in_order(points, x, y):
+def in_order(points: Sequence[Point], at: Location, metric: Metric) -> list[Ordered]:
     """All points as (d², x, y, z), by d², then x, then y."""
-    return sorted([((px - x) ** 2 + (py - y) ** 2, px, py, z) for px, py, z in points])
+    return sorted([(metric.squared_distance(at, (x, y)), x, y, z) for x, y, z in points])
 
 
-def choose(points, initial, x, y):
+def choose(
+    points: Sequence[Point], initial: int, at: Location, metric: Metric
+) -> tuple[list[Candidate], int]:
     """The neighbours as (x, y, z, D), in order of choice, and the radius R."""
-    first = in_order(points, x, y)[: MOST_NEIGHBOURS + 1]
-    candidates = [(px, py, z, distance(squared)) for squared, px, py, z in first]
+    first = in_order(points, at, metric)[: MOST_NEIGHBOURS + 1]
+    candidates = [(x, y, z, distance(squared)) for squared, x, y, z in first]
     distances = [candidate[3] for candidate in candidates]
     if distances[0] == 0:
         return candidates[:1], 0
@@ -93,7 +106,7 @@ def choose(points, initial, x, y):
 # Influence and mean.
 
 
-def influence_kind(away, radius, present):
+def influence_kind(away: int, radius: int, present: int) -> int:
     """The kind of a neighbour's influence; `present` counts the points of the whole survey."""
     if away == 0:
         return COINCIDENT
@@ -102,7 +115,7 @@ def influence_kind(away, radius, present):
     return TAPERED if away < radius else EDGE
 
 
-def factor(neighbour, radius):
+def factor(neighbour: Neighbour, radius: int) -> tuple[int, int]:
     """s as a numerator and a denominator."""
     if neighbour.kind == INVERSE:
         return 1, neighbour.distance
@@ -111,25 +124,31 @@ def factor(neighbour, radius):
     return 0, 1
 
 
-def factors(neighbours, radius):
+def factors(neighbours: Sequence[Neighbour], radius: int) -> list[int]:
     """Every s times one common denominator, which the mean divides out again."""
     fractions = [factor(neighbour, radius) for neighbour in neighbours]
     common = lcm(*(bottom for _, bottom in fractions))
     return [top * (common // bottom) for top, bottom in fractions]
 
 
-def cosine_gap(one, other, x, y):
+def offset(neighbour: Neighbour, at: Location) -> Offset:
+    return neighbour.x - at[0], neighbour.y - at[1]
+
+
+def cosine_gap(one: Neighbour, other: Neighbour, at: Location, metric: Metric) -> int:
     """|1 - cos| times the two distances: |D_i D_j - 65,536 g|."""
-    inner = (one.x - x) * (other.x - x) + (one.y - y) * (other.y - y)
+    inner = metric.inner_product(offset(one, at), offset(other, at))
     return abs(one.distance * other.distance - 65_536 * inner)
 
 
-def others(count, own):
+def others(count: int, own: int) -> Iterable[int]:
     """The positions of the neighbours that enter the directional term of the one at `own`."""
     return [position for position in range(count) if position != own]
 
 
-def weights(neighbours, radius, x, y):
+def weights(
+    neighbours: Sequence[Neighbour], radius: int, at: Location, metric: Metric
+) -> list[int]:
     """Every s²(1 + t) times one common number, which the mean divides out again."""
     s = factors(neighbours, radius)
     total = sum(s)
@@ -139,34 +158,46 @@ def weights(neighbours, radius, x, y):
     for i, neighbour in enumerate(neighbours):
         # t is `directional` over total × common².
         directional = inverse[i] * sum(
-            s[j] * inverse[j] * cosine_gap(neighbour, neighbours[j], x, y)
+            s[j] * inverse[j] * cosine_gap(neighbour, neighbours[j], at, metric)
             for j in others(len(neighbours), i)
         )
         result.append(s[i] ** 2 * (total * common**2 + directional))
     return result
 
 
-def exact_mean(neighbours, radius, x, y):
+def exact_mean(
+    neighbours: Sequence[Neighbour], radius: int, at: Location, metric: Metric
+) -> Fraction:
     if neighbours[0].kind == COINCIDENT:
         return Fraction(neighbours[0].z)
     if all(neighbour.kind == EDGE for neighbour in neighbours):
         return Fraction(sum(neighbour.z for neighbour in neighbours), len(neighbours))
-    w = weights(neighbours, radius, x, y)
+    w = weights(neighbours, radius, at, metric)
     return Fraction(sum(each * neighbour.z for each, neighbour in zip(w, neighbours)), sum(w))
 
 
-def look_up(points, initial, x, y):
-    chosen, radius = choose(points, initial, x, y)
+def look_up(points: Sequence[Point], initial: int, at: Location, metric: Metric) -> Lookup:
+    """The lookup at a location, over a survey's points and their R0."""
+    chosen, radius = choose(points, initial, at, metric)
     neighbours = tuple(
         Neighbour(*each, influence_kind(each[3], radius, len(points))) for each in chosen
     )
-    return Lookup(exact_mean(neighbours, radius, x, y), radius, neighbours)
+    return Lookup(exact_mean(neighbours, radius, at, metric), radius, neighbours)
 
 
-def permitted_answers(lookup):
+# The answer.
+
+
+def permitted_answers(lookup: Lookup) -> range:
     """All a with |256 a - 65,536 mean| ≤ 129, within 256 × least and greatest chosen value."""
     top, bottom = lookup.mean.numerator, lookup.mean.denominator
     values = [neighbour.z for neighbour in lookup.neighbours]
     low = -((129 * bottom - 65_536 * top) // (256 * bottom))
     high = (129 * bottom + 65_536 * top) // (256 * bottom)
     return range(max(low, 256 * min(values)), min(high, 256 * max(values)) + 1)
+
+
+def nearest_answer(lookup: Lookup) -> int:
+    """The nearest 256th, a half upwards."""
+    top, bottom = lookup.mean.numerator, lookup.mean.denominator
+    return (512 * top + bottom) // (2 * bottom)

@@ -1,10 +1,14 @@
 """Writes and reads the survey file, and lays out a grid and its file, from document 01 alone."""
 
+from __future__ import annotations
+
+from collections.abc import Iterable
 from struct import pack, unpack
 from typing import NamedTuple
 
 import exact
 from exact import GREATEST_COORDINATE, MOST_POINTS, Point, Refused
+from metric import Location
 
 RECORD_BYTES = 5
 TRAILER_BYTES = 12
@@ -18,13 +22,14 @@ GREATEST_SIDE = 64
 # Survey file.
 
 
-def survey_file(points):
+def survey_file(points: Iterable[Point]) -> bytes:
     """The bytes that writing gives, from points by ascending x, then y."""
-    body = b"".join(pack(">HHb", *point) for point in points)
-    return body + pack(">HIH", len(points), len(body), sum(body) % 65_536) + SURVEY_MAGIC
+    records = [pack(">HHb", *point) for point in points]
+    body = b"".join(records)
+    return body + pack(">HIH", len(records), len(body), sum(body) % 65_536) + SURVEY_MAGIC
 
 
-def check_trailer(data):
+def check_trailer(data: bytes) -> bytes:
     """Refusals 9 to 13; gives the bytes of the records."""
     if not TRAILER_BYTES <= len(data) <= GREATEST_FILE:
         raise Refused(9)
@@ -42,10 +47,10 @@ def check_trailer(data):
     return body
 
 
-def read_survey_file(data):
+def read_survey_file(data: bytes) -> list[Point]:
     """The points of a file, or the first of refusals 9 to 15."""
     body = check_trailer(data)
-    points = []
+    points: list[Point] = []
     for start in range(0, len(body), RECORD_BYTES):
         point = Point(*unpack(">HHb", body[start : start + RECORD_BYTES]))
         if not exact.on_domain(point.x, point.y):
@@ -68,7 +73,7 @@ class Grid(NamedTuple):
     rows: int
 
 
-def check_grid(grid):
+def check_grid(grid: Grid) -> None:
     """Refusal 7."""
     proper = (
         min(grid.step_x, grid.step_y) >= 1
@@ -81,7 +86,7 @@ def check_grid(grid):
         raise Refused(7)
 
 
-def grid_locations(grid):
+def grid_locations(grid: Grid) -> list[Location]:
     """Row by row, y ascending, x ascending within a row."""
     return [
         (grid.x0 + column * grid.step_x, grid.y0 + row * grid.step_y)
@@ -90,10 +95,10 @@ def grid_locations(grid):
     ]
 
 
-def grid_file_length(grid):
+def grid_file_length(grid: Grid) -> int:
     return 2 * grid.columns * grid.rows + GRID_TRAILER_BYTES
 
 
-def grid_trailer(grid):
+def grid_trailer(grid: Grid) -> bytes:
     """What follows the cells in a grid file."""
     return pack(">6HI", *grid, 2 * grid.columns * grid.rows) + GRID_MAGIC

@@ -1,53 +1,99 @@
 """Works out, from document 01 alone, what each survey call and the grid program must give."""
 
+from __future__ import annotations
+
+from collections.abc import Iterable
 from struct import unpack
 
 import exact
 import exact_files
-from exact import GREATEST_VALUE, LEAST_VALUE, MOST_NEIGHBOURS, MOST_POINTS, Point, Refused
+import metric
+from exact import GREATEST_VALUE, LEAST_VALUE, MOST_NEIGHBOURS, MOST_POINTS, Lookup, Point, Refused
 from exact_files import GREATEST_FILE, GRID_NUMBERS_BYTES, RECORD_BYTES, TRAILER_BYTES, Grid
+from metric import Location
+from outcomes import ACCEPTED, Choice, Outcome
 
 
-def check_location(x, y):
+def check_location(x: int, y: int) -> None:
     if not exact.on_domain(x, y):
         raise Refused(1)
 
 
-def check_value(z):
+def check_value(z: int) -> None:
     if not LEAST_VALUE <= z <= GREATEST_VALUE:
         raise Refused(2)
 
 
-def check_lent(lent, needed):
+def check_lent(lent: int, needed: int) -> None:
     if lent < needed:
         raise Refused(8)
+
+
+def answer(lookup: Lookup) -> Choice:
+    return Choice(tuple(exact.permitted_answers(lookup)), exact.nearest_answer(lookup))
+
+
+def two_bytes(number: int) -> bytes:
+    return number.to_bytes(2, "big", signed=True)
+
+
+def answer_bytes(lookup: Lookup) -> Choice:
+    permitted = exact.permitted_answers(lookup)
+    return Choice(tuple(map(two_bytes, permitted)), two_bytes(exact.nearest_answer(lookup)))
+
+
+def found(lookup: Lookup, neighbours: tuple[exact.Neighbour, ...] = ()) -> Outcome:
+    return Outcome((answer(lookup), len(lookup.neighbours), lookup.radius), neighbours)
 
 
 class Survey:
     """The points present; a call either acts or raises Refused and alters nothing.
 
-    What a call lends is told by its length; the call gives back what fills the start of it.
+    A call's method bears its name in operations.TABLE. What a call lends is told by its length.
     """
 
-    def __init__(self):
+    def __init__(self) -> None:
+        self.metric = metric.PLAIN
         self.replace([])
 
-    def replace(self, points):
-        self.values = {(x, y): z for x, y, z in points}
+    def replace(self, points: Iterable[tuple[int, int, int]]) -> None:
+        self.values: dict[Location, int] = {(x, y): z for x, y, z in points}
         self.altered()
 
-    def altered(self):
+    def altered(self) -> None:
         """Forget what was worked out from the points before."""
-        self.ordered = None
-        self.lookups = {}
+        self.ordered: list[Point] | None = None
+        self.lookups: dict[Location, Lookup] = {}
 
-    def points(self):
+    def points(self) -> list[Point]:
         """The points present, by ascending x, then y."""
         if self.ordered is None:
             self.ordered = [Point(x, y, z) for (x, y), z in sorted(self.values.items())]
         return self.ordered
 
-    def add(self, x, y, z):
+    def exact_lookup(self, x: int, y: int) -> Lookup:
+        check_location(x, y)
+        self.check_any()
+        if (x, y) not in self.lookups:
+            points = self.points()
+            initial = exact.initial_radius(points)
+            self.lookups[x, y] = exact.look_up(points, initial, (x, y), self.metric)
+        return self.lookups[x, y]
+
+    def exact_cells(self, grid: Grid) -> list[Lookup]:
+        return [self.exact_lookup(x, y) for x, y in exact_files.grid_locations(grid)]
+
+    def check_taken(self, x: int, y: int) -> None:
+        if (x, y) not in self.values:
+            raise Refused(4)
+
+    def check_any(self) -> None:
+        if not self.values:
+            raise Refused(6)
+
+    # The calls.
+
+    def add(self, x: int, y: int, z: int) -> Outcome:
         check_location(x, y)
         check_value(z)
         if (x, y) in self.values:
@@ -56,69 +102,62 @@ class Survey:
             raise Refused(5)
         self.values[x, y] = z
         self.altered()
+        return ACCEPTED
 
-    def change(self, x, y, z):
+    def change(self, x: int, y: int, z: int) -> Outcome:
         check_location(x, y)
         check_value(z)
         self.check_taken(x, y)
         self.values[x, y] = z
         self.altered()
+        return ACCEPTED
 
-    def drop(self, x, y):
+    def drop(self, x: int, y: int) -> Outcome:
         check_location(x, y)
         self.check_taken(x, y)
         del self.values[x, y]
         self.altered()
+        return ACCEPTED
 
-    def clear(self):
+    def clear(self) -> Outcome:
         self.replace([])
+        return ACCEPTED
 
-    def load(self, data):
+    def load(self, data: bytes) -> Outcome:
         self.replace(exact_files.read_survey_file(data))
+        return ACCEPTED
 
-    def write(self, lent):
+    def write(self, lent: int) -> Outcome:
         data = exact_files.survey_file(self.points())
         check_lent(lent, len(data))
-        return data
+        return Outcome((len(data),), (data,))
 
-    def lookup(self, x, y):
-        check_location(x, y)
-        self.check_any()
-        if (x, y) not in self.lookups:
-            points = self.points()
-            self.lookups[x, y] = exact.look_up(points, exact.initial_radius(points), x, y)
-        return self.lookups[x, y]
+    def lookup(self, x: int, y: int) -> Outcome:
+        return found(self.exact_lookup(x, y))
 
-    def lookup_with_neighbours(self, x, y, lent):
-        lookup = self.lookup(x, y)
+    def lookup_with_neighbours(self, x: int, y: int, lent: int) -> Outcome:
+        lookup = self.exact_lookup(x, y)
         check_lent(lent, MOST_NEIGHBOURS)
-        return lookup
+        return found(lookup, lookup.neighbours)
 
-    def grid(self, grid, lent):
-        """The lookups of the cells."""
+    def grid(self, grid: Grid, lent: int) -> Outcome:
         exact_files.check_grid(grid)
         self.check_any()
         check_lent(lent, grid.columns * grid.rows)
-        return [self.lookup(x, y) for x, y in exact_files.grid_locations(grid)]
+        cells = tuple(map(answer, self.exact_cells(grid)))
+        return Outcome((len(cells),), cells)
 
-    def grid_file(self, grid, lent):
-        """The lookups of the cells and the bytes that follow the cells."""
+    def grid_file(self, grid: Grid, lent: int) -> Outcome:
+        length = exact_files.grid_file_length(grid)
         exact_files.check_grid(grid)
         self.check_any()
-        check_lent(lent, exact_files.grid_file_length(grid))
-        return self.grid(grid, grid.columns * grid.rows), exact_files.grid_trailer(grid)
-
-    def check_taken(self, x, y):
-        if (x, y) not in self.values:
-            raise Refused(4)
-
-    def check_any(self):
-        if not self.values:
-            raise Refused(6)
+        check_lent(lent, length)
+        cells = map(answer_bytes, self.exact_cells(grid))
+        return Outcome((length,), (*cells, exact_files.grid_trailer(grid)))
 
 
-def grid_program(data):
-    """The lookups of the cells and the bytes that follow the cells, from the whole input."""
+def grid_program(data: bytes) -> Outcome:
+    """The grid file, from the whole input."""
     survey = Survey()
     survey.load(data)
     preamble = len(data) - TRAILER_BYTES - RECORD_BYTES * len(survey.values)

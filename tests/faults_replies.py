@@ -1,89 +1,107 @@
 """Plants faults in what the stand-ins read and write."""
 
+from __future__ import annotations
+
 import sys
 import time
+from collections.abc import Callable, Sequence
 
 import exact
-import protocol
 import stand_ins
+from exact_survey import Survey
+from faults import Plant, fault
+from operations import BY_LETTER, Operation
+from outcomes import Unit
+from protocol import Call
 
 
-def answer_plus_one():
-    right = stand_ins.nearest
-    stand_ins.nearest = lambda lookup: right(lookup) + 1
+def overwritten(unit: Unit) -> Unit:
+    """Another unit of the same form."""
+    if isinstance(unit, tuple):
+        return (0,) * len(unit)
+    return b"\0" if isinstance(unit, bytes) else 0
 
 
-def answer_floored():
-    stand_ins.nearest = lambda lookup: 256 * lookup.mean.numerator // lookup.mean.denominator
-
-
-def tail(faulty):
+def tail(letter: str) -> Plant:
     """One lent unit behind the filled ones is overwritten."""
 
-    def plant():
+    def plant() -> None:
         right = stand_ins.fill
 
-        def wrong(letter, lent, filled):
-            right(letter, lent, filled)
-            if letter == faulty and len(filled) < len(lent):
-                lent[len(filled)] = (0, 0, 0, 0, 0) if letter == "n" else 0
+        def wrong(operation: Operation, lent: list[Unit], filled: Sequence[Unit]) -> None:
+            right(operation, lent, filled)
+            if operation.letter == letter and len(filled) < len(lent):
+                lent[len(filled)] = overwritten(lent[len(filled)])
 
         stand_ins.fill = wrong
 
     return plant
 
 
-def touched_when_short():
-    """A grid refused with 8 fills what it was lent."""
-    right = stand_ins.lend_and_call
+fault("tail of file", "full survey")(tail("w"))
+fault("tail of grid file", "grids")(tail("f"))
+fault("tail of cells", "grids")(tail("g"))
+fault("tail of records", "lookups")(tail("n"))
 
-    def wrong(survey, call, lent):
+
+@fault("touched when short", "grids")
+def touched_when_short() -> None:
+    """A grid refused with 8 fills what it was lent."""
+    right = stand_ins.act
+
+    def wrong(survey: Survey, call: Call, lent: list[Unit]) -> str:
         try:
             return right(survey, call, lent)
         except exact.Refused as refusal:
             if refusal.number == 8 and call.letter == "g" and lent:
-                lent[0] = stand_ins.nearest(survey.lookup(*call.numbers[:2]))
+                lent[0] = exact.nearest_answer(survey.exact_lookup(*call.numbers[:2]))
             raise
 
-    stand_ins.lend_and_call = wrong
+    stand_ins.act = wrong
 
 
-def reads_past_bad():
+@fault("reads past bad", "bad journal")
+def reads_past_bad() -> None:
     """An unknown byte is passed over."""
     right = stand_ins.decode
 
-    def wrong(data, at):
-        while at < len(data) and chr(data[at]) not in protocol.LAYOUTS:
+    def wrong(data: bytes, at: int) -> tuple[Call, int] | None:
+        while at < len(data) and chr(data[at]) not in BY_LETTER:
             at += 1
         return right(data, at) if at < len(data) else None
 
     stand_ins.decode = wrong
 
 
-def after_replies(action):
+def after_replies(action: Callable[[bytes], bytes]) -> Plant:
     """Something that happens when all replies are worked out."""
 
-    def plant():
-        def wrapped(right):
-            return lambda data: action(right(data))
-
-        stand_ins.replay = wrapped(stand_ins.replay)
-        stand_ins.grid = wrapped(stand_ins.grid)
+    def plant() -> None:
+        replay, grid = stand_ins.replay, stand_ins.grid
+        stand_ins.replay = lambda data: action(replay(data))
+        stand_ins.grid = lambda data: action(grid(data))
 
     return plant
 
 
-def hang(output):
+def hang(output: bytes) -> bytes:
     time.sleep(60)
     return output
 
 
-def complain(output):
+def complain(output: bytes) -> bytes:
     sys.stderr.write("complaint\n")
     return output
 
 
-def fail(output):
+def fail(output: bytes) -> bytes:
     sys.stdout.buffer.write(output)
     sys.stdout.buffer.flush()
     sys.exit(3)
+
+
+fault("no line feed", "whole case")(after_replies(lambda output: output[:-1]))
+fault("one line more", "bad journal")(after_replies(lambda output: output + b"ok\n"))
+fault("hang", "whole case")(after_replies(hang))
+fault("complaint", "bad journal")(after_replies(complain))
+fault("exit status", "grids")(after_replies(fail))

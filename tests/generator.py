@@ -1,10 +1,22 @@
 """Makes the tests of a seed: lists of calls for shepard_replay and inputs for shepard_grid."""
 
-from fractions import Fraction
+from __future__ import annotations
 
+from collections.abc import Callable
+from fractions import Fraction
+from random import Random
+
+import bad_journals
 import grid_inputs
 import journals
 import mixed_calls
+from grid_inputs import GridInput
+from journals import Journal
+from protocol import Call
+
+# What one test is made of: a journal's calls, or an input of shepard_grid.
+Maker = Callable[[Random, int], list[Call] | bytes]
+Test = Journal | GridInput
 
 JOURNALS = (
     ("examples", journals.example_journal, 2),
@@ -14,33 +26,33 @@ JOURNALS = (
     ("damaged files", journals.damaged_journal, 105),
     ("grids", journals.grid_journal, 70),
     ("widest grid", journals.widest_grid_journal, 2),
-    ("bad journal", journals.bad_journal, 60),
+    ("bad journal", bad_journals.bad_journal, 60),
 )
 GRID_INPUTS = (
     ("whole case", grid_inputs.whole_case, 2),
-    ("grid inputs", grid_inputs.sound_input, 112),
+    ("grid inputs", grid_inputs.sound_input, 116),
     ("empty surveys", grid_inputs.empty_input, 24),
     ("short preambles", grid_inputs.short_preamble_input, 20),
     ("damaged grid inputs", grid_inputs.damaged_input, 340),
 )
 
 
-def share_of(count, divisor):
+def share_of(count: int, divisor: int) -> int:
     """So many of a kind for a smaller run; never fewer than two."""
     return max(2, count // divisor)
 
 
-def make_test(rng, kind, maker, index):
+def make_test(rng: Random, kind: str, maker: Maker, index: int) -> Test:
     made = maker(rng, index)
     if isinstance(made, bytes):
-        return grid_inputs.GridInput(kind, made, maker is grid_inputs.damaged_input)
-    bad = journals.bad_end(rng) if maker is journals.bad_journal else b""
-    return journals.Journal(kind, made, bad)
+        return GridInput(kind, made, maker is grid_inputs.damaged_input)
+    bad = bad_journals.bad_end(rng) if maker is bad_journals.bad_journal else b""
+    return Journal(kind, made, bad)
 
 
-def make(rng, divisor=1):
+def make(rng: Random, divisor: int = 1) -> list[Test]:
     """All tests of a run, each kind spread evenly over it."""
-    spread = []
+    spread: list[tuple[Fraction, Test]] = []
     for kind, maker, whole in JOURNALS + GRID_INPUTS:
         count = share_of(whole, divisor)
         for index in range(count):

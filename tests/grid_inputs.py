@@ -1,5 +1,8 @@
 """Makes inputs for shepard_grid: sound ones, empty surveys, short preambles and damaged files."""
 
+from __future__ import annotations
+
+from random import Random
 from struct import pack
 from typing import NamedTuple
 
@@ -17,14 +20,14 @@ class GridInput(NamedTuple):
     damaged: bool = False
 
 
-def grid_preamble(rng):
+def grid_preamble(rng: Random) -> bytes:
     """The six numbers and, at times, more; or too few bytes."""
     numbers = pack(">6H", *(improper_grid(rng) if rng.randrange(4) == 0 else proper_grid(rng)))
     longer, shorter = numbers + damage.random_preamble(rng), numbers[: rng.randrange(12)]
     return rng.choice((numbers, numbers, longer, shorter))
 
 
-def short_preamble_input(rng, index):
+def short_preamble_input(rng: Random, index: int) -> bytes:
     """Fewer than 12 bytes before the first record, which together with it read as a proper grid."""
     numbers = pack(">6H", *proper_grid(rng))
     rows = int.from_bytes(numbers[10:], "big")
@@ -36,23 +39,23 @@ def short_preamble_input(rng, index):
     return damage.assemble(numbers[:10] + b"\0", damage.records_of(points))
 
 
-def sound_input(rng, index):
+def sound_input(rng: Random, index: int) -> bytes:
     points, _ = surveys.make(rng, surveys.KINDS[index % len(surveys.KINDS)])
     preamble = pack(">6H", *grid_near(rng, points)) if rng.randrange(2) else grid_preamble(rng)
     return damage.assemble(preamble, damage.records_of(points))
 
 
-def empty_input(rng, index):
+def empty_input(rng: Random, index: int) -> bytes:
     """No record: 6, unless the grid or the preamble is at fault."""
     preamble = grid_preamble(rng) if index % 2 else pack(">6H", *proper_grid(rng))
     return damage.assemble(preamble, [])
 
 
-def damaged_input(rng, index):
+def damaged_input(rng: Random, index: int) -> bytes:
     return damage.damage(rng, grid_preamble(rng), damage.few_points(rng))
 
 
-def whole_case(rng, index):
+def whole_case(rng: Random, index: int) -> bytes:
     """Document 01's whole case, and no input at all."""
     case = "0000 0000 0001 0001 0002 0001 0003 0000 F9 0001 00000005 00FC 524C5331"
     return (bytes.fromhex(case), b"")[index]

@@ -1,8 +1,19 @@
 """Makes random grids, proper ones and ones that break a rule."""
 
+from __future__ import annotations
 
-def proper_side(rng):
-    """Start, step and count along one axis, the last on the domain, often on its last line."""
+from collections.abc import Sequence
+from random import Random
+
+from exact import Point
+
+# Start, step and count along one axis; and a grid's six numbers.
+Side = tuple[int, int, int]
+Numbers = tuple[int, int, int, int, int, int]
+
+
+def proper_side(rng: Random) -> Side:
+    """The last on the domain, often on its last line."""
     count = rng.choice((1, 1, 2, 3, 3, 4, 6, 9))
     if count == 1:
         return rng.choice((0, 4095, rng.randrange(4096))), rng.choice((1, 4096, 65_535)), 1
@@ -11,12 +22,12 @@ def proper_side(rng):
     return rng.choice((0, last, rng.randint(0, last))), step, count
 
 
-def full_side(rng):
+def full_side(rng: Random) -> Side:
     step = rng.choice((1, 65))
     return rng.randint(0, 4095 - 63 * step), step, 64
 
 
-def improper_side(rng):
+def improper_side(rng: Random) -> Side:
     """One rule broken; some ends come back onto the domain in 16 bits."""
     start, step, count = proper_side(rng)
     return rng.choice(
@@ -38,11 +49,11 @@ def improper_side(rng):
     )
 
 
-def grid_of(across, down):
+def grid_of(across: Side, down: Side) -> Numbers:
     return across[0], down[0], across[1], down[1], across[2], down[2]
 
 
-def proper_grid(rng):
+def proper_grid(rng: Random) -> Numbers:
     if rng.randrange(60) == 0:
         return grid_of(full_side(rng), proper_side(rng))
     if rng.randrange(60) == 0:
@@ -50,7 +61,7 @@ def proper_grid(rng):
     return grid_of(proper_side(rng), proper_side(rng))
 
 
-def improper_grid(rng):
+def improper_grid(rng: Random) -> Numbers:
     return grid_of(
         *rng.choice(
             (
@@ -62,7 +73,7 @@ def improper_grid(rng):
     )
 
 
-def grid_near(rng, points):
+def grid_near(rng: Random, points: Sequence[Point]) -> Numbers:
     """A proper grid around a point, so that near points shape the cells."""
     point = rng.choice(points)
     sides = []

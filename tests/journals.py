@@ -1,12 +1,17 @@
-"""Makes lists of calls: lookups, grids, full surveys, damaged files, bad ends and examples."""
+"""Makes lists of calls: lookups, grids, full surveys, damaged files and examples."""
 
-from struct import pack
+from __future__ import annotations
+
+from collections.abc import Sequence
+from random import Random
 from typing import NamedTuple
 
 import damage
 import protocol
 import surveys
+from exact import Point
 from grids import full_side, grid_near, grid_of, improper_grid, proper_grid
+from operations import BYTES, CELLS
 from protocol import Call
 from random_calls import ANY_GRID, ANY_SURVEY, entry, grid_calls, lookup_calls
 
@@ -15,18 +20,18 @@ class Journal(NamedTuple):
     """Calls from a fresh survey, then bytes, if any, that make the journal a bad one."""
 
     kind: str
-    calls: list
+    calls: list[Call]
     bad: bytes = b""
 
 
-def encode(journal):
+def encode(journal: Journal) -> bytes:
     return b"".join(map(protocol.encode, journal.calls)) + journal.bad
 
 
 # Lookups.
 
 
-def lookup_journal(rng, index):
+def lookup_journal(rng: Random, index: int) -> list[Call]:
     points, aimed = surveys.make(rng, surveys.KINDS[index % len(surveys.KINDS)])
     return entry(rng, points) + lookup_calls(rng, points, aimed, 70)
 
@@ -34,7 +39,7 @@ def lookup_journal(rng, index):
 # Grids.
 
 
-def grid_journal(rng, index):
+def grid_journal(rng: Random, index: int) -> list[Call]:
     points, _ = surveys.make(rng, rng.choice(surveys.KINDS))
     calls = grid_calls(rng, improper_grid(rng)) + grid_calls(rng, proper_grid(rng))
     calls += entry(rng, points)
@@ -44,22 +49,22 @@ def grid_journal(rng, index):
     return calls
 
 
-def widest_grid_journal(rng, index):
+def widest_grid_journal(rng: Random, index: int) -> list[Call]:
     """64 columns and 64 rows, with the most cells and bytes that may be lent."""
     points, _ = surveys.make(rng, rng.choice((surveys.uniform, surveys.lattice)))
     numbers = grid_of(full_side(rng), full_side(rng))
     return entry(rng, points) + [
         Call("g", (*numbers, 4095)),
-        Call("g", (*numbers, (4096, protocol.MOST_LENT["g"])[index % 2])),
+        Call("g", (*numbers, (4096, CELLS.most)[index % 2])),
         Call("f", (*numbers, ANY_GRID - 1)),
-        Call("f", (*numbers, (ANY_GRID, protocol.MOST_LENT["f"])[index % 2])),
+        Call("f", (*numbers, (ANY_GRID, BYTES.most)[index % 2])),
     ]
 
 
 # Full surveys.
 
 
-def refused_adds(rng, points):
+def refused_adds(rng: Random, points: Sequence[Point]) -> list[Call]:
     """At a full survey: refusals 1, 2, 3 and 5, each before those that follow it."""
     taken = rng.choice(points)
     return [
@@ -75,7 +80,7 @@ def refused_adds(rng, points):
     ]
 
 
-def full_journal(rng, index):
+def full_journal(rng: Random, index: int) -> list[Call]:
     """255, 256 and 257 adds; drops make room again; files of 256 points."""
     draw = lambda: (rng.randrange(1, 4096), rng.randrange(4096))
     points = surveys.with_values(rng, surveys.gather(257, draw))
@@ -95,7 +100,7 @@ def full_journal(rng, index):
 # Damaged files.
 
 
-def shown(rng, points):
+def shown(rng: Random, points: Sequence[Point]) -> Call:
     """A call that shows what the survey holds."""
     return rng.choice(
         (
@@ -106,7 +111,7 @@ def shown(rng, points):
     )
 
 
-def damaged_journal(rng, index):
+def damaged_journal(rng: Random, index: int) -> list[Call]:
     held = damage.few_points(rng)
     calls = entry(rng, held) if rng.randrange(8) else []
     for _ in range(20):
@@ -114,52 +119,6 @@ def damaged_journal(rng, index):
         calls.append(protocol.load(damage.damage(rng, damage.random_preamble(rng), points), True))
         calls.append(shown(rng, rng.choice((held, points))))
     return calls
-
-
-# Bad journals.
-
-
-def bad_end(rng):
-    """Bytes that no journal may hold; what follows them must not be read as calls."""
-    after = protocol.encode(Call("q", (1, 1)))
-    letters = "".join(protocol.LAYOUTS).encode()
-    unknown = bytes([rng.choice([byte for byte in range(256) if byte not in letters])])
-    whole = rng.choice(
-        (
-            Call("a", (1, 2, 3)),
-            Call("c", (1, 2, 3)),
-            Call("d", (1, 2)),
-            Call("w", (40,)),
-            Call("q", (1, 2)),
-            Call("n", (1, 2, 10)),
-            Call("g", (0, 0, 1, 1, 1, 1, 9)),
-            Call("f", (0, 0, 1, 1, 1, 1, 30)),
-            protocol.load(damage.assemble(b"", [pack(">HHb", 1, 2, 3)])),
-            protocol.load(bytes(rng.choice((65_537, 65_600)))),
-        )
-    )
-    letter = rng.choice(sorted(protocol.MOST_LENT))
-    above = rng.choice((protocol.MOST_LENT[letter] + 1, 2**32 - 1))
-    numbers = {"w": (), "n": (1, 1), "g": (0, 0, 1, 1, 1, 1), "f": (0, 0, 1, 1, 1, 1)}[letter]
-    encoded = protocol.encode(whole)
-    return rng.choice(
-        (
-            unknown,
-            unknown + after,
-            protocol.encode(Call(letter, (*numbers, above))) + after,
-            encoded[: rng.randrange(1, len(encoded))],
-            encoded[:-1],
-            protocol.encode(Call("l", (2**32 - 1,), after)),
-        )
-    )
-
-
-def bad_journal(rng, index):
-    """The sound calls before the bad end; at times there are none."""
-    if index % 6 == 1:
-        return []
-    points = damage.few_points(rng)
-    return rng.sample(entry(rng, points), 1) + lookup_calls(rng, points, [], 3) + [Call("w", (40,))]
 
 
 # Document 01's examples.
@@ -175,7 +134,7 @@ EXAMPLES = (
 )
 
 
-def example_journal(rng, index):
+def example_journal(rng: Random, index: int) -> list[Call]:
     """The examples, and the limits of the domain, of the values and of lent lists; then no call."""
     if index == 1:
         return []
@@ -186,5 +145,5 @@ def example_journal(rng, index):
     calls += [Call("n", (0, 0, 9)), Call("n", (4096, 0, 0)), Call("w", (11,)), Call("w", (12,))]
     calls += [Call("a", point) for point in ((4095, 0, 127), (4096, 0, 127), (0, 4096, 128))]
     calls += [Call("a", (1, 1, z)) for z in (128, -129, -128)]
-    calls += [Call("w", (protocol.MOST_LENT["w"],)), Call("q", (4095, 4095))]
+    calls += [Call("w", (BYTES.most,)), Call("q", (4095, 4095))]
     return calls + [protocol.load(damage.assemble(b"", [])), Call("q", (0, 0)), Call("w", (13,))]

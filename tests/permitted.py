@@ -1,98 +1,85 @@
 """Gives the texts that document 01 permits as the reply to a call, and holds a text to them."""
 
+from __future__ import annotations
+
 from typing import NamedTuple
 
 import exact
-import exact_files
+import outcomes
 import protocol
+from exact_survey import Survey
+from outcomes import Choice, Outcome
+from protocol import Call
 
-# What a lent line opens with, and one untouched byte, record or cell in it.
-LENT_WORDS = {"w": "bytes", "f": "bytes", "n": "records", "g": "values"}
-UNTOUCHED = {"w": "a5", "f": "a5", "n": " 165,165,-91,165,165", "g": " -23131"}
-
-# A permitted text is a list of pieces; a piece is all the strings that may stand there. The answers
-# of a lookup are one or two neighbouring numbers, so no string of a piece opens another.
-
-
-def answer_pieces(lookup, form):
-    return tuple(form(answer) for answer in exact.permitted_answers(lookup))
-
-
-def two_bytes(answer):
-    return answer.to_bytes(2, "big", signed=True).hex()
-
-
-def found(lookup):
-    count, radius = len(lookup.neighbours), lookup.radius
-    return [answer_pieces(lookup, lambda answer: f"found {answer} {count} {radius}")]
-
-
-def grid_file_pieces(cells, trailer):
-    return [answer_pieces(cell, two_bytes) for cell in cells] + [(trailer.hex(),)]
+# A permitted text is a list of pieces; a piece is all the strings that may stand there.
+Piece = tuple[str, ...]
 
 
 class Expected(NamedTuple):
-    """The pieces of a reply, those of what was filled, and how many lent units were filled."""
+    """The permitted lines of a call, each as pieces, and what it gives, if it is accepted."""
 
-    reply: list
-    filled: tuple = ()
-    units: int = 0
-
-
-def perform(survey, call):
-    """Do an accepted call on the exact survey; exact.Refused comes out of a refused one."""
-    numbers = call.numbers
-    if call.letter == "w":
-        data = survey.write(*numbers)
-        return Expected([(f"wrote {len(data)}",)], [(data.hex(),)], len(data))
-    if call.letter == "q":
-        return Expected(found(survey.lookup(*numbers)))
-    if call.letter == "n":
-        lookup = survey.lookup_with_neighbours(*numbers)
-        records = [(" " + ",".join(map(str, each)),) for each in lookup.neighbours]
-        return Expected(found(lookup), records, len(records))
-    if call.letter in "gf":
-        return perform_grid(survey, call.letter, exact_files.Grid(*numbers[:6]), numbers[6])
-    protocol.alter(survey, call)
-    return Expected([("ok",)])
+    lines: list[list[Piece]]
+    outcome: Outcome | None
 
 
-def perform_grid(survey, letter, grid, lent):
-    if letter == "g":
-        cells = survey.grid(grid, lent)
-        values = [answer_pieces(cell, lambda answer: f" {answer}") for cell in cells]
-        return Expected([(f"cells {len(cells)}",)], values, len(cells))
-    pieces = grid_file_pieces(*survey.grid_file(grid, lent))
-    length = exact_files.grid_file_length(grid)
-    return Expected([(f"wrote {length}",)], pieces, length)
+def piece(each: outcomes.Unit | Choice, before: str = "") -> Piece:
+    return tuple(before + outcomes.text(option) for option in outcomes.options(each))
 
 
-def expected_lines(survey, call):
+def reply_pieces(word: str, outcome: Outcome) -> list[Piece]:
+    return [(word,), *(piece(number, " ") for number in outcome.numbers)]
+
+
+def file_pieces(outcome: Outcome) -> list[Piece]:
+    """The bytes of a file, in hexadecimal."""
+    return [piece(each) for each in outcome.filled]
+
+
+def filled_units(outcome: Outcome) -> list[int]:
+    """How many lent units may be filled, ascending."""
+    totals = {0}
+    for each in outcome.filled:
+        sizes = {outcomes.lent_units(option) for option in outcomes.options(each)}
+        totals = {total + size for total in totals for size in sizes}
+    return sorted(totals)
+
+
+def lent_pieces(call: Call, outcome: Outcome) -> list[Piece]:
+    """The line that shows what was lent; no outcome fills nothing."""
+    lent = call.operation.lent
+    assert lent is not None
+    packed = isinstance(lent.untouched, bytes)
+    before = "" if packed else " "
+    opening = lent.word + (" " if packed and call.lent else "")
+    untouched = before + outcomes.text(lent.untouched)
+    tails = tuple(untouched * (call.lent - units) for units in filled_units(outcome))
+    return [(opening,), *(piece(each, before) for each in outcome.filled), tails]
+
+
+def expected(survey: Survey, call: Call) -> Expected:
     """The permitted reply to a call and, where it lends, the permitted line of what was lent."""
+    outcome = None
     try:
-        expected = perform(survey, call)
+        outcome = protocol.perform(survey, call)
+        reply = reply_pieces(call.operation.reply, outcome)
     except exact.Refused as refusal:
-        expected = Expected([(f"refused {refusal.number}",)])
-    if call.letter not in protocol.MOST_LENT:
-        return [expected.reply]
-    lent = call.numbers[-1]
-    word = LENT_WORDS[call.letter]
-    opening = word + " " if word == "bytes" and lent else word
-    tail = UNTOUCHED[call.letter] * (lent - expected.units)
-    return [expected.reply, [(opening,), *expected.filled, (tail,)]]
+        reply = [(f"refused {refusal.number}",)]
+    if call.operation.lent is None:
+        return Expected([reply], outcome)
+    return Expected([reply, lent_pieces(call, outcome or outcomes.ACCEPTED)], outcome)
 
 
-def mismatch(pieces, text):
+def mismatch(pieces: list[Piece], text: str) -> int | None:
     """Where the text leaves what is permitted, or None."""
     at = 0
-    for piece in pieces:
-        match = next((each for each in piece if text.startswith(each, at)), None)
+    for each in pieces:
+        match = next((option for option in each if text.startswith(option, at)), None)
         if match is None:
             return at
         at += len(match)
     return None if at == len(text) else at
 
 
-def permitted_text(pieces):
-    texts = [piece[0] if len(piece) == 1 else "(" + " or ".join(piece) + ")" for piece in pieces]
+def permitted_text(pieces: list[Piece]) -> str:
+    texts = [each[0] if len(each) == 1 else "(" + " or ".join(each) + ")" for each in pieces]
     return "".join(texts)

@@ -1,61 +1,64 @@
-"""The calls of a shepard_replay journal: their bytes, and a form that a reader can follow."""
+"""A call of a journal: its bytes, what it does to an exact survey, and a form to read."""
+
+from __future__ import annotations
 
 from struct import pack
-from typing import NamedTuple
+from typing import TYPE_CHECKING, NamedTuple
 
-# The arguments of each call, high byte first; a load's bytes follow its length.
-LAYOUTS = {
-    "a": ">IIi",
-    "c": ">IIi",
-    "d": ">II",
-    "k": ">",
-    "l": ">I",
-    "w": ">I",
-    "q": ">II",
-    "n": ">III",
-    "g": ">6HI",
-    "f": ">6HI",
-}
-NAMES = {
-    "a": "add",
-    "c": "change",
-    "d": "drop",
-    "k": "clear",
-    "l": "load",
-    "w": "write",
-    "q": "lookup",
-    "n": "lookup with neighbours",
-    "g": "grid",
-    "f": "grid file",
-}
-# The calls that lend, and how many bytes, records or cells they may lend at most.
-MOST_LENT = {"w": 65_536, "n": 32, "g": 8_192, "f": 65_536}
-ALTERING = "acdkl"
+from operations import BY_LETTER, Operation
+from outcomes import Outcome
+
+if TYPE_CHECKING:
+    from exact_survey import Survey
+
 SHOWN_BYTES = 48
 
 
 class Call(NamedTuple):
+    """`numbers` are as in the journal: last how many bytes follow, or how much is lent."""
+
     letter: str
-    numbers: tuple = ()
+    numbers: tuple[int, ...] = ()
     file: bytes = b""
     damaged: bool = False
 
+    @property
+    def operation(self) -> Operation:
+        return BY_LETTER[self.letter]
 
-def load(data, damaged=False):
+    @property
+    def lent(self) -> int:
+        return self.numbers[-1] if self.operation.lent else 0
+
+
+def load(data: bytes, damaged: bool = False) -> Call:
     return Call("l", (len(data),), data, damaged)
 
 
-def encode(call):
-    return call.letter.encode() + pack(LAYOUTS[call.letter], *call.numbers) + call.file
+def encode(call: Call) -> bytes:
+    return call.letter.encode() + pack(call.operation.layout, *call.numbers) + call.file
 
 
-def alter(survey, call):
-    """Do one of the altering calls; the survey's methods bear their names."""
-    arguments = (call.file,) if call.letter == "l" else call.numbers
-    getattr(survey, NAMES[call.letter])(*arguments)
+def arguments(call: Call) -> list[object]:
+    """What the exact survey's method is given."""
+    made: list[object] = []
+    at = 0
+    for field in call.operation.fields:
+        made.append(field.make(*call.numbers[at : at + field.count]))
+        at += field.count
+    if call.operation.file:
+        made.append(call.file)
+    if call.operation.lent:
+        made.append(call.lent)
+    return made
 
 
-def hexadecimal(data):
+def perform(survey: Survey, call: Call) -> Outcome:
+    """Do a call on an exact survey; exact.Refused comes out of a refused one."""
+    return getattr(survey, call.operation.method)(*arguments(call))
+
+
+def hexadecimal(data: bytes) -> str:
     """The bytes, or the two ends of many bytes."""
     if len(data) <= 2 * SHOWN_BYTES:
         return data.hex()
@@ -63,8 +66,8 @@ def hexadecimal(data):
     return f"{data[:SHOWN_BYTES].hex()} ({left_out} bytes) {data[-SHOWN_BYTES:].hex()}"
 
 
-def describe(call):
-    words = [NAMES[call.letter], *map(str, call.numbers)]
+def describe(call: Call) -> str:
+    words = [call.operation.name, *map(str, call.numbers)]
     if call.file:
         words.append(hexadecimal(call.file))
     return " ".join(words)

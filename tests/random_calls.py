@@ -1,8 +1,17 @@
 """Makes random calls: lookups, grids, and those after which given points are present."""
 
+from __future__ import annotations
+
+from collections.abc import Iterable, Sequence
+from random import Random
+
 import damage
 import protocol
 import surveys
+from exact import Point
+from grids import Numbers
+from metric import Location
+from operations import BYTES, CELLS
 from protocol import Call
 
 # Enough lent bytes for the file of any survey, and for that of any grid.
@@ -10,14 +19,16 @@ ANY_SURVEY = 256 * 5 + 12
 ANY_GRID = 2 * 64 * 64 + 20
 
 
-def lookup_call(rng, location):
+def lookup_call(rng: Random, location: Location) -> Call:
     """With neighbours or without, most often lent enough records."""
     if rng.randrange(2):
         return Call("q", location)
     return Call("n", (*location, rng.choice((10, 10, 10, 10, 11, 32, 0, 9))))
 
 
-def lookup_calls(rng, points, aimed, count):
+def lookup_calls(
+    rng: Random, points: Sequence[Point], aimed: Iterable[Location], count: int
+) -> list[Call]:
     calls = [lookup_call(rng, location) for location in aimed]
     while len(calls) < count:
         if rng.randrange(25):
@@ -28,7 +39,7 @@ def lookup_calls(rng, points, aimed, count):
     return calls
 
 
-def entry(rng, points):
+def entry(rng: Random, points: Sequence[Point]) -> list[Call]:
     """Calls after which the points are present, straight or by detours."""
     if rng.randrange(4) == 0:
         return [protocol.load(damage.sound_file(rng, points))]
@@ -45,15 +56,15 @@ def entry(rng, points):
     return calls
 
 
-def lent_about(rng, needed, most):
+def lent_about(rng: Random, needed: int, most: int) -> int:
     """How much is lent: the exact need, one less, one more, none, or more."""
     choices = (needed, needed, needed + 1, needed + 9, needed - 1, 0)
     return min(max(rng.choice(choices), 0), most)
 
 
-def grid_calls(rng, numbers):
+def grid_calls(rng: Random, numbers: Numbers) -> list[Call]:
     """The grid and its file, each lent about what it needs."""
     cells = min(numbers[4] * numbers[5], 4096)
-    grid = Call("g", (*numbers, lent_about(rng, cells, protocol.MOST_LENT["g"])))
-    file = Call("f", (*numbers, lent_about(rng, 2 * cells + 20, protocol.MOST_LENT["f"])))
+    grid = Call("g", (*numbers, lent_about(rng, cells, CELLS.most)))
+    file = Call("f", (*numbers, lent_about(rng, 2 * cells + 20, BYTES.most)))
     return rng.sample((grid, file), rng.choice((1, 2, 2)))

@@ -1,99 +1,78 @@
-"""Stand-ins for shepard_replay and shepard_grid that answer by the exact-fraction program."""
+"""Stands in for shepard_replay and shepard_grid with the answers of the exact-fraction program."""
 
-from struct import calcsize, pack, unpack
+from __future__ import annotations
+
+from collections.abc import Sequence
+from struct import unpack
 
 import exact
-import exact_files
 import exact_survey
+import outcomes
 import protocol
-
-UNTOUCHED = {"w": 0xA5, "f": 0xA5, "n": (165, 165, -91, 165, 165), "g": -23131}
-
-
-def nearest(lookup):
-    """The nearest 256th, a half upwards."""
-    top, bottom = lookup.mean.numerator, lookup.mean.denominator
-    return (512 * top + bottom) // (2 * bottom)
+from exact_survey import Survey
+from operations import BY_LETTER, Lent, Operation
+from outcomes import Outcome, Unit
+from protocol import Call
 
 
-def fill(letter, lent, filled):
+def single_units(outcome: Outcome) -> list[Unit]:
+    """What an outcome fills, lent unit by lent unit."""
+    units: list[Unit] = []
+    for each in map(outcomes.preferred, outcome.filled):
+        units += [bytes([byte]) for byte in each] if isinstance(each, bytes) else [each]
+    return units
+
+
+def fill(operation: Operation, lent: list[Unit], filled: Sequence[Unit]) -> None:
     """Put what a call gives at the start of what was lent."""
     lent[: len(filled)] = filled
 
 
-def grid_file_bytes(cells, trailer):
-    return b"".join(pack(">h", nearest(cell)) for cell in cells) + trailer
+def act(survey: Survey, call: Call, lent: list[Unit]) -> str:
+    """Do a call; gives its reply."""
+    outcome = protocol.perform(survey, call)
+    fill(call.operation, lent, single_units(outcome))
+    numbers = [outcomes.text(outcomes.preferred(number)) for number in outcome.numbers]
+    return " ".join([call.operation.reply, *numbers])
 
 
-def found(lookup):
-    return f"found {nearest(lookup)} {len(lookup.neighbours)} {lookup.radius}"
+def lent_line(form: Lent, lent: Sequence[Unit]) -> str:
+    texts = list(map(outcomes.text, lent))
+    if isinstance(form.untouched, bytes) and lent:
+        texts = ["".join(texts)]
+    return " ".join([form.word, *texts])
 
 
-def lend_and_call(survey, call, lent):
-    """The reply of a call that lends."""
-    numbers = call.numbers
-    if call.letter == "w":
-        filled = survey.write(*numbers)
-        reply = f"wrote {len(filled)}"
-    elif call.letter == "n":
-        lookup = survey.lookup_with_neighbours(*numbers)
-        filled, reply = lookup.neighbours, found(lookup)
-    elif call.letter == "g":
-        filled = [nearest(cell) for cell in survey.grid(exact_files.Grid(*numbers[:6]), numbers[6])]
-        reply = f"cells {len(filled)}"
-    else:
-        filled = grid_file_bytes(*survey.grid_file(exact_files.Grid(*numbers[:6]), numbers[6]))
-        reply = f"wrote {len(filled)}"
-    fill(call.letter, lent, filled)
-    return reply
-
-
-def plain_call(survey, call):
-    """The reply of a call that lends nothing."""
-    if call.letter == "q":
-        return found(survey.lookup(*call.numbers))
-    protocol.alter(survey, call)
-    return "ok"
-
-
-def lent_line(letter, lent):
-    if letter in "wf":
-        return "bytes " + bytes(lent).hex() if lent else "bytes"
-    if letter == "g":
-        return " ".join(["values", *map(str, lent)])
-    return " ".join(["records", *(",".join(map(str, record)) for record in lent)])
-
-
-def reply_lines(survey, call):
-    lends = call.letter in protocol.MOST_LENT
-    lent = [UNTOUCHED[call.letter]] * call.numbers[-1] if lends else []
+def reply_lines(survey: Survey, call: Call) -> list[str]:
+    form = call.operation.lent
+    lent = [form.untouched] * call.lent if form else []
     try:
-        reply = lend_and_call(survey, call, lent) if lends else plain_call(survey, call)
+        reply = act(survey, call, lent)
     except exact.Refused as refusal:
         reply = f"refused {refusal.number}"
-    return [reply, lent_line(call.letter, lent)] if lends else [reply]
+    return [reply, lent_line(form, lent)] if form else [reply]
 
 
-def decode(data, at):
+def decode(data: bytes, at: int) -> tuple[Call, int] | None:
     """The call at a position and the position after it, or None for a bad journal."""
-    letter = chr(data[at])
-    if letter not in protocol.LAYOUTS:
+    operation = BY_LETTER.get(chr(data[at]))
+    if operation is None:
         return None
-    end = at + 1 + calcsize(protocol.LAYOUTS[letter])
+    end = at + 1 + operation.length
     if end > len(data):
         return None
-    numbers = unpack(protocol.LAYOUTS[letter], data[at + 1 : end])
-    if letter in protocol.MOST_LENT and numbers[-1] > protocol.MOST_LENT[letter]:
+    numbers = unpack(operation.layout, data[at + 1 : end])
+    if operation.lent and numbers[-1] > operation.lent.most:
         return None
-    length = numbers[0] if letter == "l" else 0
-    if end + length > len(data):
+    following = numbers[-1] if operation.file else 0
+    if end + following > len(data):
         return None
-    return protocol.Call(letter, numbers, data[end : end + length]), end + length
+    return Call(operation.letter, numbers, data[end : end + following]), end + following
 
 
-def replay(data):
-    survey = exact_survey.Survey()
-    lines = []
+def replay(data: bytes) -> bytes:
+    survey = Survey()
+    lines: list[str] = []
     at = 0
     while at < len(data):
         decoded = decode(data, at)
@@ -105,8 +84,9 @@ def replay(data):
     return "".join(line + "\n" for line in lines).encode()
 
 
-def grid(data):
+def grid(data: bytes) -> bytes:
     try:
-        return grid_file_bytes(*exact_survey.grid_program(data))
+        outcome = exact_survey.grid_program(data)
     except exact.Refused as refusal:
         return f"refused {refusal.number}\n".encode()
+    return b"".join(map(outcomes.preferred, outcome.filled))

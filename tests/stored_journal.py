@@ -6,6 +6,8 @@ What the program must write to it is kept in crates/shepard_replay/stdout; test_
 files to this list and to the exact-fraction program.
 """
 
+from __future__ import annotations
+
 import sys
 
 import damage
@@ -21,15 +23,15 @@ FIVE = ((95, 100, 0), (100, 95, 0), (100, 105, 0), (103, 104, 98), (105, 100, 0)
 BAD_END = protocol.encode(Call("a", (1, 1, 1)))[:-1]
 
 
-def calls_of(letter, *arguments):
+def calls_of(letter: str, *arguments: tuple[int, ...]) -> list[Call]:
     return [Call(letter, numbers) for numbers in arguments]
 
 
-def loads(*files):
+def loads(*files: bytes) -> list[Call]:
     return [protocol.load(file) for file in files]
 
 
-def on_none():
+def on_none() -> list[Call]:
     """No point is present."""
     calls = calls_of("q", (0, 0), (4096, 0))
     calls += calls_of("n", (0, 0, 10), (0, 0, 0), (0, 4096, 2))
@@ -38,7 +40,7 @@ def on_none():
     return calls + calls_of("g", (*GRID, 3), (*GRID, 0)) + calls_of("f", (*GRID, 5), (*GRID, 0))
 
 
-def on_two():
+def on_two() -> list[Call]:
     """Two points; refusals 1 to 4, at the limits of locations and values; lent bytes."""
     calls = calls_of("a", (3, 0, 0), (6, 0, 90)) + [Call("q", (0, 0))]
     calls += calls_of("n", (0, 0, 10), (0, 0, 12), (0, 0, 9), (0, 0, 0), (3, 0, 10))
@@ -51,7 +53,7 @@ def on_two():
     return calls + [Call("q", (2**32 - 1, 1))] + calls_of("w", (22,), (21,), (25,), (0,))
 
 
-def files():
+def files() -> list[Call]:
     """Accepted files, and refusals 9 to 15."""
     sound, beside = damage.assemble(b"", PAIR), damage.records_of([(5, 4095, 0), (5, 4096, 0)])
     descending = [*damage.records_of([(6, 0, 1)]), *damage.records_of([(3, 0, 1)])]
@@ -67,7 +69,7 @@ def files():
     return calls + [Call("w", (12,))]
 
 
-def on_full():
+def on_full() -> list[Call]:
     """256 points: 5, and room again after a drop."""
     calls = loads(damage.assemble(b"", FULL)) + [Call("a", (1, 1, 1)), Call("d", (16, 15))]
     calls += calls_of("a", (1, 1, 1), (2, 1, 1)) + calls_of("q", (1, 1), (2000, 2000))
@@ -75,14 +77,14 @@ def on_full():
     return calls + [Call("k"), Call("q", (1, 1))]
 
 
-def rows():
+def rows() -> list[Call]:
     """Document 01's rows with all points tapered, and with all at the edge."""
     twelve = journals.EXAMPLES[-1][0]
     calls = calls_of("a", *FIVE) + [Call("n", (100, 100, 11)), Call("k")]
     return calls + calls_of("a", *twelve) + [Call("n", (100, 100, 10)), Call("q", (0, 0))]
 
 
-def grids():
+def grids() -> list[Call]:
     """7, 8, the tail of longer lists, and document 01's whole case."""
     calls = [Call("k"), Call("g", (0, 0, 0, 1, 2, 1, 2)), Call("a", (3, 0, -7))]
     calls += calls_of("g", (*GRID, 2), (*GRID, 1), (*GRID, 4))
@@ -92,7 +94,7 @@ def grids():
     return calls + calls_of("g", (4094, 4095, 1, 9, 2, 1, 2))
 
 
-def make():
+def make() -> journals.Journal:
     calls = on_none() + on_two() + files() + on_full() + rows() + grids()
     return journals.Journal("stored", calls, BAD_END)
 

@@ -1,22 +1,30 @@
 """Makes random and hostile surveys, each with locations where a lookup is telling."""
 
+from __future__ import annotations
+
+from collections.abc import Callable, Iterable, Sequence
 from math import isqrt
+from random import Random
 
 import exact
+from exact import Point
+from metric import Location, Offset
 
 SIDE = exact.GREATEST_COORDINATE + 1
 COUNTS = (1, 2, 3, 4, 5, 5, 6, 7, 8, 9, 10, 11, 12, 13, 16, 20, 25, 32, 50, 90)
+# The locations of a survey, and those to aim lookups at.
+Made = tuple[list[Location], list[Location]]
 # π to 18 decimals, to find the surveys whose radius would differ under it.
 PI = (3_141_592_653_589_793_238, 10**18)
 
 
-def keep_on_domain(locations):
+def keep_on_domain(locations: Iterable[Location]) -> list[Location]:
     return [location for location in locations if exact.on_domain(*location)]
 
 
-def gather(count, draw):
+def gather(count: int, draw: Callable[[], Location]) -> list[Location]:
     """Up to `count` different locations on the domain, as `draw` gives them."""
-    found = {}
+    found: dict[Location, None] = {}
     for _ in range(5 * count):
         location = draw()
         if exact.on_domain(*location):
@@ -26,7 +34,7 @@ def gather(count, draw):
     return list(found) or [(0, 0)]
 
 
-def with_values(rng, locations):
+def with_values(rng: Random, locations: Iterable[Location]) -> list[Point]:
     """Points at the locations, in the order given, their values in one of several manners."""
     manner = rng.randrange(5)
     points = []
@@ -38,35 +46,35 @@ def with_values(rng, locations):
             index % 256 - 128,
             rng.choice((-1, 0, 1)),
         )[manner]
-        points.append(exact.Point(x, y, z))
+        points.append(Point(x, y, z))
     return points
 
 
-def uniform(rng):
+def uniform(rng: Random) -> Made:
     return gather(rng.choice(COUNTS), lambda: (rng.randrange(SIDE), rng.randrange(SIDE))), []
 
 
-def crowded(rng):
+def crowded(rng: Random) -> Made:
     """Up to the most points a survey holds."""
     count = rng.choice((170, 255, 256))
     side = rng.choice((20, 200, SIDE))
     return gather(count, lambda: (rng.randrange(side), rng.randrange(side))), []
 
 
-def diagonal(rng):
+def diagonal(rng: Random) -> Made:
     """Along a diagonal, where rounded distances push cosines above 1."""
     spread = rng.choice((0, 0, 1, 3, 20))
     length = rng.choice((12, 100, SIDE))
     start = rng.randrange(SIDE - length + 1)
 
-    def draw():
+    def draw() -> Location:
         along = start + rng.randrange(length)
         return along + rng.randint(-spread, spread), along + rng.randint(-spread, spread)
 
     return gather(rng.choice(COUNTS), draw), keep_on_domain([(start - 1, start - 1)])
 
 
-def lattice(rng):
+def lattice(rng: Random) -> Made:
     """On few nodes, so that many distances tie."""
     spacing = rng.choice((1, 1, 2, 3, 5, 64))
     across, down = rng.randint(2, 8), rng.randint(2, 8)
@@ -81,7 +89,7 @@ def lattice(rng):
     return locations, aimed
 
 
-def column(rng):
+def column(rng: Random) -> Made:
     """One x: the rectangle's area is 0."""
     x = rng.choice((0, 4095, rng.randrange(SIDE)))
     length = rng.choice((10, 16, SIDE))
@@ -90,24 +98,24 @@ def column(rng):
     return locations, [(x, low + rng.randrange(length)) for _ in range(15)]
 
 
-def row(rng):
+def row(rng: Random) -> Made:
     """One y: the rectangle's area is 0."""
     locations, aimed = column(rng)
     return [(y, x) for x, y in locations], [(y, x) for x, y in aimed]
 
 
-def single(rng):
+def single(rng: Random) -> Made:
     """One point: one x and one y."""
     return [(rng.choice((0, 4095, rng.randrange(SIDE))), rng.randrange(SIDE))], []
 
 
-def circle(squared):
+def circle(squared: int) -> list[Offset]:
     """All whole offsets at one distance."""
     reach = range(-isqrt(squared), isqrt(squared) + 1)
     return [(dx, dy) for dx in reach for dy in reach if dx * dx + dy * dy == squared]
 
 
-def ring(rng):
+def ring(rng: Random) -> Made:
     """Points at equal distance around a location; far ones widen the initial radius."""
     x, y = rng.randint(100, 3900), rng.randint(100, 3900)
     offsets = circle(rng.choice((25, 50, 65, 85, 125, 325, 425, 1105)))
@@ -119,13 +127,13 @@ def ring(rng):
     return locations, [(x, y)] * 2 + [(x + 1, y), (x, y + 1)]
 
 
-def corners(rng):
+def corners(rng: Random) -> Made:
     edge = (0, 1, 2047, 2048, 4094, 4095)
     draw = lambda: (rng.choice(edge), rng.choice(edge))
     return gather(rng.choice((4, 5, 8, 12, 30)), draw), [draw() for _ in range(10)]
 
 
-def counted(rng):
+def counted(rng: Random) -> Made:
     """So many points close to a location, and two in far corners: those within R0 are counted."""
     x, y = rng.randint(1950, 2150), rng.randint(1950, 2150)
     reach = rng.choice((3, 6, 90))
@@ -135,7 +143,7 @@ def counted(rng):
     return locations + [(0, 0), (4095, 4095)], [(x, y)] * 3 + [draw() for _ in range(10)]
 
 
-def offsets_at(away):
+def offsets_at(away: int) -> list[Offset]:
     """Whole offsets (dx, dy), 0 ≤ dx ≤ dy, whose distance D is `away` exactly."""
     least = -(-away * away // 65_536)
     most = ((away + 1) ** 2 - 1) // 65_536
@@ -148,12 +156,14 @@ def offsets_at(away):
     return found
 
 
-def turned(rng, offset):
+def turned(rng: Random, offset: Offset) -> Offset:
     dx, dy = rng.sample(offset, 2)
     return rng.choice((-1, 1)) * dx, rng.choice((-1, 1)) * dy
 
 
-def away_from(rng, locations, distances):
+def away_from(
+    rng: Random, locations: Sequence[Location], distances: Iterable[int]
+) -> list[Location]:
     """Locations from which one of the points is at one of the distances exactly."""
     found = []
     for away in distances:
@@ -164,27 +174,27 @@ def away_from(rng, locations, distances):
     return keep_on_domain(found)
 
 
-def thresholds(rng):
+def thresholds(rng: Random) -> Made:
     """Lookups with a point at D = R0, or 3D = R0, or one 256th beside it."""
     wide, high = rng.randint(150, 1200), rng.randint(150, 1200)
     left, low = rng.randint(0, SIDE - wide), rng.randint(0, SIDE - high)
     draw = lambda: (left + rng.randrange(wide), low + rng.randrange(high))
     locations = gather(rng.randint(7, 24), draw)
-    radius = exact.initial_radius([exact.Point(x, y, 0) for x, y in locations])
+    radius = exact.initial_radius([Point(x, y, 0) for x, y in locations])
     third = radius // 3
     distances = (radius, radius, radius, radius + 1, radius - 1, third, third, third + 1)
     return locations, away_from(rng, locations, distances)
 
 
-def radius_by_pi(area, count):
+def radius_by_pi(area: int, count: int) -> int:
     return isqrt(65_536 * 7 * area * PI[1] // (PI[0] * count))
 
 
-def by_pi(rng):
+def by_pi(rng: Random) -> Made:
     """The initial radius by 355/113 is not the one that π itself would give."""
     for _ in range(400):
         count, wide, high = rng.randint(7, 12), rng.randint(3000, 4095), rng.randint(3000, 4095)
-        spanning = [exact.Point(0, 0, 0)] * (count - 1) + [exact.Point(wide, high, 0)]
+        spanning = [Point(0, 0, 0)] * (count - 1) + [Point(wide, high, 0)]
         if exact.initial_radius(spanning) != radius_by_pi(wide * high, count):
             break
     inside = lambda: (rng.randint(1, wide - 1), rng.randint(1, high - 1))
@@ -213,21 +223,21 @@ KINDS = (
 )
 
 
-def make(rng, kind):
+def make(rng: Random, kind: Callable[[Random], Made]) -> tuple[list[Point], list[Location]]:
     """A survey's points, in a random order of entry, and the locations to aim at."""
     locations, aimed = kind(rng)
     rng.shuffle(locations)
     return with_values(rng, locations), aimed
 
 
-def off_domain(rng):
+def off_domain(rng: Random) -> Location:
     """A location that breaks refusal 1, some of them on the domain in their low 12 or 16 bits."""
     wrong = rng.choice((4096, 4097, 8191, 65_535, 65_536, 65_541, 2**31, 2**32 - 1))
     right = rng.choice((0, 4095, 4096, rng.randrange(SIDE)))
     return (wrong, right) if rng.randrange(2) else (right, wrong)
 
 
-def location_near(rng, points):
+def location_near(rng: Random, points: Sequence[Point]) -> Location:
     """A location on the domain with a bearing on the points."""
     one, other = rng.choice(points), rng.choice(points)
     xs, ys = sorted((one.x, other.x)), sorted((one.y, other.y))

@@ -1,5 +1,7 @@
 """Shows that the comparison passes sound programs and catches each planted fault."""
 
+from __future__ import annotations
+
 import contextlib
 import io
 import pathlib
@@ -12,77 +14,33 @@ from random import Random
 import compare
 import exact
 import exact_survey
-import fakes
 import generator
-import grid_inputs
-import journals
 import permitted
 import protocol
 import stand_ins
+from fakes import FAULTS
+from generator import Test
+from grid_inputs import GridInput
+from journals import Journal
 
 FAKES = str(pathlib.Path(__file__).with_name("fakes.py"))
 # The parts of a whole run that sound and faulty programs are put to; a faulty one stops early.
 SOUND_PART, FAULTY_PART = 16, 4
 SECONDS = 20
 SHORT_SECONDS = 2
-
-# The kind of test that shows each fault.
-SHOWN_BY = {
-    "ties by entry": "lookups",
-    "ties by y": "lookups",
-    "radius of last": "lookups",
-    "first n": "lookups",
-    "radius by pi": "lookups",
-    "within strictly": "lookups",
-    "third strictly": "lookups",
-    "four present tapered": "lookups",
-    "answer plus one": "whole case",
-    "answer floored": "grid inputs",
-    "own cosine": "lookups",
-    "no bars": "lookups",
-    "no directional term": "lookups",
-    "edges mean nothing": "examples",
-    "tail of file": "full survey",
-    "tail of grid file": "grids",
-    "tail of cells": "grids",
-    "tail of records": "lookups",
-    "touched when short": "grids",
-    "load clears": "damaged files",
-    "load merges": "mixed calls",
-    "6 before 7": "grids",
-    "8 before 6": "mixed calls",
-    "8 before 6 in grids": "grids",
-    "cells by columns": "grids",
-    "last wraps": "grids",
-    "full at 255": "full survey",
-    "5 before 3": "full survey",
-    "4 before 2": "full survey",
-    "low bits": "lookups",
-    "sum unbounded": "full survey",
-    "equal locations pass": "damaged files",
-    "domain before order": "damaged files",
-    "13 before 12": "damaged files",
-    "7 before 9": "damaged grid inputs",
-    "short preamble passes": "short preambles",
-    "reads past bad": "bad journal",
-    "no line feed": "whole case",
-    "one line more": "bad journal",
-    "hang": "whole case",
-    "complaint": "bad journal",
-    "exit status": "grids",
-}
+FEWEST_FAULTS = 42
 
 
-def command(program, fault=None):
+def command(program: str, fault: str | None = None) -> list[str]:
     return [sys.executable, FAKES, program] + (["--fault", fault] if fault else [])
 
 
-def part_of_run(divisor):
+def part_of_run(divisor: int) -> list[Test]:
     return generator.make(Random(compare.SEED), divisor)
 
 
 class SoundPrograms(unittest.TestCase):
-    def test_pass(self):
+    def test_pass(self) -> None:
         tests = part_of_run(SOUND_PART)
         counts = compare.run_tests(tests, command("grid"), command("replay"), SECONDS)
         for name in compare.MINIMA:
@@ -90,18 +48,18 @@ class SoundPrograms(unittest.TestCase):
 
 
 class Faults(unittest.TestCase):
-    def test_every_fault_is_expected_somewhere(self):
-        self.assertEqual(set(SHOWN_BY), set(fakes.FAULTS))
+    def test_are_no_fewer(self) -> None:
+        self.assertGreaterEqual(len(FAULTS), FEWEST_FAULTS)
 
-    def test_each_is_caught(self):
+    def test_each_is_caught(self) -> None:
         tests = part_of_run(FAULTY_PART)
-        for fault, kind in SHOWN_BY.items():
-            with self.subTest(fault=fault):
-                self.assert_caught([test for test in tests if test.kind == kind], fault)
+        for name, fault in FAULTS.items():
+            with self.subTest(fault=name):
+                self.assert_caught([test for test in tests if test.kind == fault.shown_by], name)
 
-    def assert_caught(self, tests, fault):
+    def assert_caught(self, tests: list[Test], fault: str) -> None:
         seconds = SHORT_SECONDS if fault == "hang" else SECONDS
-        with self.assertRaises(compare.Difference) as caught:
+        with self.assertRaises(compare.Found) as caught:
             compare.run_tests(tests, command("grid", fault), command("replay", fault), seconds)
         path = pathlib.Path(caught.exception.path)
         self.assertTrue(path.exists())
@@ -109,7 +67,7 @@ class Faults(unittest.TestCase):
 
 
 class Report(unittest.TestCase):
-    def test_shows_the_shortened_journal(self):
+    def test_shows_the_shortened_journal(self) -> None:
         """The lookup before the failing call is left out, and the kept journal fails again."""
         calls = [
             protocol.Call("a", (3, 0, 0)),
@@ -119,20 +77,20 @@ class Report(unittest.TestCase):
             protocol.Call("k"),
         ]
         replay = command("replay", "answer floored")
-        with self.assertRaises(compare.Difference) as caught:
-            compare.run_tests([journals.Journal("report", calls)], command("grid"), replay, SECONDS)
-        difference = caught.exception
-        path = pathlib.Path(difference.path)
+        with self.assertRaises(compare.Found) as caught:
+            compare.run_tests([Journal("report", calls)], command("grid"), replay, SECONDS)
+        found = caught.exception
+        path = pathlib.Path(found.path)
         kept = b"".join(map(protocol.encode, [calls[0], calls[2], calls[3]]))
         self.assertEqual(path.read_bytes(), kept)
         path.unlink()
-        self.assertEqual(difference.shown, ["add 3 0 0", "add 6 0 90", "lookup 0 1"])
-        for text in ("add 6 0 90", "expected: found ", "came:     found ", difference.path):
-            self.assertIn(text, compare.report(difference))
+        self.assertEqual(found.shown, ["add 3 0 0", "add 6 0 90", "lookup 0 1"])
+        for text in ("add 6 0 90", "expected: found ", "came:     found ", found.path):
+            self.assertIn(text, compare.report(found))
 
 
 class CommandLine(unittest.TestCase):
-    def run_main(self, *arguments):
+    def run_main(self, *arguments: str) -> tuple[int, str]:
         """The exit status and the output; the file that a difference keeps is removed."""
         output = io.StringIO()
         with contextlib.redirect_stdout(output):
@@ -141,14 +99,14 @@ class CommandLine(unittest.TestCase):
         pathlib.Path(text.strip().rpartition("kept in ")[2]).unlink()
         return status, text
 
-    def wrap(self, folder, program, options):
+    def wrap(self, folder: str, program: str, options: str) -> str:
         """An executable file, since the command line takes programs without arguments."""
         path = pathlib.Path(folder, program)
         path.write_text(f"#!/bin/sh\nexec '{sys.executable}' '{FAKES}' {program} {options}\n")
         path.chmod(0o700)
         return str(path)
 
-    def test_wrong_program(self):
+    def test_wrong_program(self) -> None:
         with tempfile.TemporaryDirectory() as folder:
             grid = self.wrap(folder, "grid", "")
             replay = self.wrap(folder, "replay", "--fault 'answer plus one'")
@@ -156,12 +114,12 @@ class CommandLine(unittest.TestCase):
         self.assertEqual(status, 1)
         self.assertIn("expected: ", text)
 
-    def test_missing_program(self):
+    def test_missing_program(self) -> None:
         status, text = self.run_main("no-such-program", "no-such-program")
         self.assertEqual(status, 1)
         self.assertIn("No such file", text)
 
-    def test_too_few(self):
+    def test_too_few(self) -> None:
         enough = Counter(compare.MINIMA)
         self.assertEqual(compare.too_few(enough), [])
         enough["lookups"] -= 1
@@ -172,41 +130,41 @@ class Generator(unittest.TestCase):
     """What the tests of the default seed hold."""
 
     @classmethod
-    def setUpClass(cls):
+    def setUpClass(cls) -> None:
         tests = part_of_run(FAULTY_PART)
-        cls.journals = [test for test in tests if isinstance(test, journals.Journal)]
-        cls.inputs = [test.data for test in tests if isinstance(test, grid_inputs.GridInput)]
+        cls.journals = [test for test in tests if isinstance(test, Journal)]
+        cls.inputs = [test.data for test in tests if isinstance(test, GridInput)]
 
-    def test_a_seed_gives_the_same_tests(self):
+    def test_a_seed_gives_the_same_tests(self) -> None:
         self.assertEqual(part_of_run(FAULTY_PART), part_of_run(FAULTY_PART))
 
-    def test_every_refusal_is_met_in_journals(self):
+    def test_every_refusal_is_met_in_journals(self) -> None:
         met = Counter()
         for journal in self.journals:
             survey = exact_survey.Survey()
-            met.update(permitted.expected_lines(survey, call)[0][0][0] for call in journal.calls)
-        for number in range(1, 16):
+            met.update(permitted.expected(survey, call).lines[0][0][0] for call in journal.calls)
+        for number in range(1, exact.LAST_REFUSAL + 1):
             self.assertGreater(met[f"refused {number}"], 1, number)
 
-    def test_every_refusal_of_the_grid_program_is_met(self):
+    def test_every_refusal_of_the_grid_program_is_met(self) -> None:
         met = Counter(map(stand_ins.grid, self.inputs))
         for number in (6, 7, *range(9, 16)):
             self.assertGreater(met[f"refused {number}\n".encode()], 0, number)
 
-    def test_damaged_files_that_stay_valid(self):
+    def test_damaged_files_that_stay_valid(self) -> None:
         survey, valid = exact_survey.Survey(), 0
         for journal in self.journals:
             for call in journal.calls:
-                valid += call.damaged and permitted.expected_lines(survey, call)[0] == [("ok",)]
+                valid += call.damaged and permitted.expected(survey, call).outcome is not None
         self.assertGreater(valid, 20)
 
-    def test_counts_of_neighbours_and_kinds(self):
+    def test_counts_of_neighbours_and_kinds(self) -> None:
         """Lookups with 4, 5 and 10 neighbours by each rule, and all four kinds."""
         met = Counter()
         for journal in self.journals:
             survey = exact_survey.Survey()
             for call in journal.calls if journal.kind == "lookups" else []:
-                permitted.expected_lines(survey, call)
+                permitted.expected(survey, call)
             for lookup in survey.lookups.values():
                 initial = exact.initial_radius(survey.points())
                 met[len(lookup.neighbours), lookup.radius == initial] += 1

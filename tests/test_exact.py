@@ -1,6 +1,9 @@
 """Holds the exact-fraction program to document 01's own numbers and a second, slower mean."""
 
+from __future__ import annotations
+
 import unittest
+from collections.abc import Callable, Iterable, Sequence
 from fractions import Fraction
 from random import Random
 from unittest import mock
@@ -10,31 +13,36 @@ import exact_files
 import exact_survey
 import grid_inputs
 import journals
+import metric
+import permitted
 import stand_ins
 import surveys
+from exact import Lookup, Neighbour
+from exact_survey import Survey
+from metric import Location, Offset
 
 
-def survey_of(points):
-    survey = exact_survey.Survey()
+def survey_of(points: Iterable[tuple[int, int, int]]) -> Survey:
+    survey = Survey()
     for point in points:
         survey.add(*point)
     return survey
 
 
-def example(number):
+def example(number: int) -> Lookup:
     points, location = journals.EXAMPLES[number]
-    return survey_of(points).lookup(*location)
+    return survey_of(points).exact_lookup(*location)
 
 
-def answers(lookup):
+def answers(lookup: Lookup) -> list[int]:
     return list(exact.permitted_answers(lookup))
 
 
-def kinds(lookup):
+def kinds(lookup: Lookup) -> set[int]:
     return {neighbour.kind for neighbour in lookup.neighbours}
 
 
-def plain_mean(neighbours, radius, x, y):
+def plain_mean(neighbours: Sequence[Neighbour], radius: int, x: int, y: int) -> Fraction:
     """The exact mean in fractions throughout, with no common denominator drawn out."""
     s = [Fraction(*exact.factor(neighbour, radius)) for neighbour in neighbours]
     weights = []
@@ -48,44 +56,54 @@ def plain_mean(neighbours, radius, x, y):
     return sum(weight * each.z for weight, each in zip(weights, neighbours)) / sum(weights)
 
 
+class Doubled(metric.Metric):
+    def squared_distance(self, one: Location, other: Location) -> int:
+        return 4 * super().squared_distance(one, other)
+
+    def inner_product(self, one: Offset, other: Offset) -> int:
+        return 4 * super().inner_product(one, other)
+
+
 class RefusalCase(unittest.TestCase):
-    def assert_refused(self, number, call, *arguments):
+    def assert_refused(
+        self, number: int, call: Callable[..., object], *arguments: object
+    ) -> None:
         with self.assertRaises(exact.Refused) as caught:
             call(*arguments)
         self.assertEqual(caught.exception.number, number)
 
 
 class Examples(RefusalCase):
-    def test_distances(self):
+    def test_distances(self) -> None:
         self.assertEqual([exact.distance(squared) for squared in (0, 1, 2)], [0, 256, 362])
         self.assertEqual(exact.distance(2 * 4095**2), 1_482_548)
 
-    def test_one_point(self):
+    def test_one_point(self) -> None:
         points, location = journals.EXAMPLES[0]
         survey = survey_of(points)
         rng = Random(7)
         elsewhere = [(rng.randrange(4096), rng.randrange(4096)) for _ in range(200)]
         for x, y in [location, points[0][:2], (0, 0), (4095, 0), (4095, 4095), *elsewhere]:
-            self.assertEqual(answers(survey.lookup(x, y)), [-1792])
+            self.assertEqual(answers(survey.exact_lookup(x, y)), [-1792])
 
-    def test_two_points(self):
+    def test_two_points(self) -> None:
         self.assertEqual(answers(example(1)), [4608])
         self.assertEqual(example(2).mean, Fraction(70, 3))
         self.assertEqual(answers(example(2)), [5973])
         self.assertEqual(answers(example(3)), [1280])
 
-    def test_two_points_without_directional_terms(self):
+    def test_two_points_without_directional_terms(self) -> None:
         with mock.patch.object(exact, "others", lambda count, own: []):
             self.assertEqual(answers(example(1)), [4608])
             self.assertEqual(answers(example(2)), [4608])
 
-    def test_five_points(self):
+    def test_five_points(self) -> None:
         lookup = example(4)
         self.assertEqual((len(lookup.neighbours), lookup.radius), (5, 1708))
         self.assertEqual(kinds(lookup), {exact.TAPERED})
         self.assertEqual(answers(lookup), [4608])
 
-    def test_twelve_points(self):
+    def test_twelve_points(self) -> None:
         points, _ = journals.EXAMPLES[5]
         self.assertEqual(len(points), 12)
         self.assertEqual(exact.initial_radius(survey_of(points).points()), 1103)
@@ -94,11 +112,11 @@ class Examples(RefusalCase):
         self.assertEqual(kinds(lookup), {exact.EDGE})
         self.assertEqual(answers(lookup), [640])
 
-    def test_kinds(self):
+    def test_kinds(self) -> None:
         found = [exact.influence_kind(away, 1708, 5) for away in (569, 570, 1707, 1708)]
         self.assertEqual(found, [exact.INVERSE, exact.TAPERED, exact.TAPERED, exact.EDGE])
 
-    def test_limits(self):
+    def test_limits(self) -> None:
         survey = survey_of([(4095, 0, 127)])
         self.assert_refused(1, survey.add, 4096, 0, 127)
         self.assert_refused(2, survey.add, 1, 1, 128)
@@ -106,52 +124,65 @@ class Examples(RefusalCase):
             survey.add(9, y, 0)
         self.assert_refused(5, survey.add, 9, 255, 0)
 
-    def test_no_records(self):
+    def test_no_records(self) -> None:
         survey = survey_of([(1, 1, 1)])
         survey.load(exact_files.survey_file([]))
         self.assert_refused(6, survey.lookup, 0, 0)
 
-    def test_whole_case(self):
+    def test_whole_case(self) -> None:
         output = "F900 F900 0000 0000 0001 0001 0002 0001 00000004 524C4731"
         case = grid_inputs.whole_case(Random(0), 0)
-        cells, trailer = exact_survey.grid_program(case)
-        self.assertEqual([answers(cell) for cell in cells], [[-1792], [-1792]])
-        self.assertEqual(trailer, bytes.fromhex(output)[4:])
+        pieces = permitted.file_pieces(exact_survey.grid_program(case))
+        self.assertEqual(permitted.permitted_text(pieces), bytes.fromhex(output).hex())
         self.assertEqual(stand_ins.grid(case), bytes.fromhex(output))
 
 
 class Mean(unittest.TestCase):
-    def test_against_plain_fractions(self):
+    def test_against_plain_fractions(self) -> None:
         rng = Random(11)
         compared = 0
         for kind in surveys.KINDS:
             points, aimed = surveys.make(rng, kind)
             survey = survey_of(points)
             for x, y in aimed[:4] + [surveys.location_near(rng, points) for _ in range(4)]:
-                lookup = survey.lookup(x, y)
+                lookup = survey.exact_lookup(x, y)
                 if kinds(lookup) & {exact.INVERSE, exact.TAPERED}:
                     plain = plain_mean(lookup.neighbours, lookup.radius, x, y)
                     self.assertEqual(lookup.mean, plain)
                     compared += 1
         self.assertGreater(compared, 60)
 
-    def test_either_side_of_a_midpoint(self):
+    def test_goes_by_the_metric(self) -> None:
+        """Doubled distances over points are plain distances over points twice as far apart."""
+        rng = Random(13)
+        for kind in surveys.KINDS:
+            points, _ = surveys.make(rng, kind)
+            x, y = surveys.location_near(rng, points)
+            far = [exact.Point(2 * px, 2 * py, z) for px, py, z in points]
+            initial = exact.initial_radius(far)
+            plain = exact.look_up(far, initial, (2 * x, 2 * y), metric.PLAIN)
+            doubled = exact.look_up(points, initial, (x, y), Doubled())
+            self.assertEqual((doubled.mean, doubled.radius), (plain.mean, plain.radius))
+            found = [(2 * each.x, 2 * each.y, *each[2:]) for each in doubled.neighbours]
+            self.assertEqual(found, list(plain.neighbours))
+
+    def test_either_side_of_a_midpoint(self) -> None:
         """Within 1/65,536 of a midpoint both neighbouring 256ths are permitted, farther off one."""
         ends = tuple(exact.Neighbour(0, 0, z, 256, exact.INVERSE) for z in (0, 1))
-        for off, permitted in ((-2, [3]), (-1, [3, 4]), (0, [3, 4]), (1, [3, 4]), (2, [4])):
+        for off, allowed in ((-2, [3]), (-1, [3, 4]), (0, [3, 4]), (1, [3, 4]), (2, [4])):
             lookup = exact.Lookup(Fraction(256 * 3 + 128 + off, 65_536), 0, ends)
-            self.assertEqual(answers(lookup), permitted)
+            self.assertEqual(answers(lookup), allowed)
 
 
 class Files(RefusalCase):
-    def test_written_and_read(self):
+    def test_written_and_read(self) -> None:
         rng = Random(5)
         for kind in surveys.KINDS:
             points, _ = surveys.make(rng, kind)
             data = exact_files.survey_file(survey_of(points).points())
             self.assertEqual(exact_files.read_survey_file(b"preamble" + data), sorted(points))
 
-    def test_order_of_refusals(self):
+    def test_order_of_refusals(self) -> None:
         survey = survey_of([(1, 1, 1)])
         self.assert_refused(1, survey.add, 4096, 0, 128)
         self.assert_refused(2, survey.add, 1, 1, 128)

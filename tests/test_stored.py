@@ -1,41 +1,44 @@
 """Holds the stored tests of the programs to document 01."""
 
+from __future__ import annotations
+
 import unittest
 from collections import Counter
 from pathlib import Path
 
-import compare
+import checks
+import exact
 import exact_survey
 import journals
 import permitted
 import stored_journal
+from programs import Run
 
 CRATES = Path(__file__).parent.parent / "crates"
 
 
 class StoredJournal(unittest.TestCase):
-    def setUp(self):
+    def setUp(self) -> None:
         self.stored = CRATES / "shepard_replay"
         self.journal = stored_journal.make()
 
-    def test_input_is_the_list(self):
+    def test_input_is_the_list(self) -> None:
         self.assertEqual((self.stored / "stdin").read_bytes(), journals.encode(self.journal))
 
-    def test_output_is_permitted(self):
-        output = compare.Outcome((self.stored / "stdout").read_bytes(), "")
-        compare.check_replies(self.journal, output, Counter())
+    def test_output_is_permitted(self) -> None:
+        run = Run((self.stored / "stdout").read_bytes(), "")
+        checks.check_replies(self.journal, run, Counter())
 
-    def test_every_refusal_is_met(self):
+    def test_every_refusal_is_met(self) -> None:
         replies = (self.stored / "stdout").read_text().split("\n")
-        for number in range(1, 16):
+        for number in range(1, exact.LAST_REFUSAL + 1):
             self.assertIn(f"refused {number}", replies)
 
 
 class StoredGridInput(unittest.TestCase):
-    def test_output_is_permitted(self):
+    def test_output_is_permitted(self) -> None:
         stored = CRATES / "shepard_grid"
-        cells, trailer = exact_survey.grid_program((stored / "stdin").read_bytes())
-        pieces = permitted.grid_file_pieces(cells, trailer)
+        pieces = permitted.file_pieces(exact_survey.grid_program((stored / "stdin").read_bytes()))
         self.assertIsNone(permitted.mismatch(pieces, (stored / "stdout").read_bytes().hex()))
 
 

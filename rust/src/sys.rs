@@ -19,7 +19,14 @@ extern "C" {
         count: *mut usize,
         radius: *mut u32,
     ) -> u8;
-    pub fn shepard_lookup_many(file: *const u8, file_length: usize, locations: *const u8, locations_length: usize, out: *mut u8, out_length: usize) -> u8;
+    pub fn shepard_lookup_many(
+        file: *const u8,
+        file_length: usize,
+        locations: *const u8,
+        locations_length: usize,
+        out: *mut u8,
+        out_length: usize,
+    ) -> u8;
     pub fn shepard_grid_file(
         file: *const u8,
         file_length: usize,

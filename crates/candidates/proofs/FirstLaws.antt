@@ -1,6 +1,6 @@
 -- The first keys of the points within a limit are those of the first points in order.
 use mathlib.Core.Path.{_≡_, sym, ap, _∙_}
-use Prim.Native.Nat.{ℕ, _%_, _≤_, _<_}
+use Prim.Native.Nat.{ℕ, _%_, _≤_, _<_, min}
 use native.Mathlib.Omega.{arith}
 use mathlib.Core.Bool.{Bool, true, false}
 use mathlib.Core.List.{List, map, map-map}
@@ -20,21 +20,21 @@ use Rattle.laws.proofs.PrecedesLaws.{less-lexical, more-lexical}
 use Rattle.laws.proofs.OrderLaws.{sort-all}
 use Rattle.laws.proofs.SortLaws.{length-sort, map-sort}
 use Rattle.laws.proofs.PartLaws.{passing, length-passing, Parted, take-sort-passing}
-use Rattle.columns.specs.Columns.{surveyIn}
-use Rattle.columns.proofs.ReadLaws.{length-points, points-at}
+use Rattle.point_arrays.specs.PointArrays.{HoldsPoints}
+use Rattle.point_arrays.proofs.ReadLaws.{length-points, points-at}
 use Rattle.squares.specs.Squares.{HoldsSquares, Words, within, indicesWithin}
 use Rattle.squares.proofs.IndexLaws.{indices-below, indices-ascend, map-indices}
 use Rattle.candidates.specs.Keys.{keyAt, candidateOf, noKey, firstKeys}
 use Rattle.candidates.specs.First.{candidateAt, pointsWithin}
 use Rattle.candidates.proofs.KeyLaws.{key-squared, key-x, key-y, key-index, key-before, sort-before}
 
-module _ (xs ys : List ℕ) (zs : List ℤ) (n : ℕ) (p : Location) (squares : List ℕ) (words : Words squares)
-    (held : HoldsSquares (surveyIn xs ys zs n) p squares) (limit : ℕ) where
-  abbrev s : State
-  s = surveyIn xs ys zs n
+module _ (s : State) (p : Location) (xs ys : List ℕ) (zs : List ℤ) (n : ℕ) (points : HoldsPoints s xs ys zs n) (squares : List ℕ) (words : Words squares)
+    (held : HoldsSquares s p squares) (limit : ℕ) where
+  many : length (s .contents .points) ≡ min n 256
+  many = ap length points ∙ length-points xs ys zs n
 
   abbrev pointAt : ℕ → Point
-  pointAt i = getD (s .points) i (point 0 0 (pos 0))
+  pointAt i = getD (s .contents .points) i (point 0 0 (pos 0))
 
   -- the point of a key
   abbrev pointOf : ℕ → Point
@@ -49,17 +49,18 @@ module _ (xs ys : List ℕ) (zs : List ℤ) (n : ℕ) (p : Location) (squares : 
   abbrev indices : List ℕ
   indices = indicesWithin limit squares
 
-  size : (length squares ≡ length (s .points)) × (length squares ≤ 256)
+  size : (length squares ≡ length (s .contents .points)) × (length squares ≤ 256)
   size =
-      let e : length squares ≡ length (s .points) = ap length held ∙ length-map (s .points) (squared s p) in
-      (e, omega (arith, length-points xs ys zs n))
+      let e : length squares ≡ length (s .contents .points) = ap length held ∙ length-map (s .contents .points) (squared s p) in
+      (e, omega (arith, many))
 
   module _ (i : ℕ) (h : i < length squares) where
     square-at : getD squares i 0 ≡ squared s p (pointAt i)
-    square-at = ap (λ (l : List ℕ). getD l i 0) held ∙ getD-map (squared s p) (s .points) i 0 (point 0 0 (pos 0)) (omega (arith, size .0))
+    square-at = ap (λ (l : List ℕ). getD l i 0) held ∙ getD-map (squared s p) (s .contents .points) i 0 (point 0 0 (pos 0)) (omega (arith, size .0))
 
     at-index : pointAt i ≡ point (getD xs i 0 % 4096) (getD ys i 0 % 4096) (getD zs i (pos 0))
-    at-index = points-at xs ys zs n i (point 0 0 (pos 0)) (omega (arith, size .0, length-points xs ys zs n))
+    at-index =
+        ap (λ (l : List Point). getD l i (point 0 0 (pos 0))) points ∙ points-at xs ys zs n i (point 0 0 (pos 0)) (omega (arith, size .0, many))
 
     key-point : pointOf (key i) ≡ pointAt i
     key-point = ap pointAt (key-index (getD squares i 0) (getD xs i 0 % 4096) (getD ys i 0 % 4096) i (omega arith) (omega arith) (omega (arith, size .1)))
@@ -101,18 +102,18 @@ module _ (xs ys : List ℕ) (zs : List ℤ) (n : ℕ) (p : Location) (squares : 
     then = λ a b e f. more-lexical (squared s p b) (squared s p a) (precedes b a) (apart a b e f);
   }
 
-  points-within : map pointAt indices ≡ passing inside (s .points)
+  points-within : map pointAt indices ≡ passing inside (s .contents .points)
   points-within =
-      map-indices (λ i. within limit (getD squares i 0)) inside (s .points) (point 0 0 (pos 0)) (length squares) (omega (arith, size .0)) (λ i h. ap (λ d. leb d limit) (square-at i h))
+      map-indices (λ i. within limit (getD squares i 0)) inside (s .contents .points) (point 0 0 (pos 0)) (length squares) (omega (arith, size .0)) (λ i h. ap (λ d. leb d limit) (square-at i h))
       ∙ rw (size .0, take-length)
 
   pub found : length indices ≡ pointsWithin s p limit
-  found = sym (length-map indices pointAt) ∙ ap length points-within ∙ length-passing inside (s .points)
+  found = sym (length-map indices pointAt) ∙ ap length points-within ∙ length-passing inside (s .contents .points)
 
   abbrev keys : List ℕ
   keys = map key indices
 
-  keys-ordered : map pointOf (sort ltb keys) ≡ sort (nearer s p) (passing inside (s .points))
+  keys-ordered : map pointOf (sort ltb keys) ≡ sort (nearer s p) (passing inside (s .contents .points))
   keys-ordered =
       map-sort pointOf ltb (nearer s p) keys
       (pairs-map (λ a b. nearer s p (pointOf b) (pointOf a) ≡ ltb b a) key indices
@@ -145,4 +146,4 @@ module _ (xs ys : List ℕ) (zs : List ℤ) (n : ℕ) (p : Location) (squares : 
         ∙ map-same (candidateOf zs) (λ e. candidateAt s p (pointOf e)) (take k (sort ltb keys)) (all-take _ k (sort ltb keys) keys-tell)
         ∙ sym (map-map (candidateAt s p) pointOf (take k (sort ltb keys)))
         ∙ ap (map (candidateAt s p))
-        (sym (take-map pointOf k (sort ltb keys)) ∙ ap (take k) keys-ordered ∙ take-sort-passing (nearer s p) inside parted k (s .points) (omega (arith, found)))
+        (sym (take-map pointOf k (sort ltb keys)) ∙ ap (take k) keys-ordered ∙ take-sort-passing (nearer s p) inside parted k (s .contents .points) (omega (arith, found)))

@@ -28,7 +28,7 @@ listOf b = take (b .count) (b .items)
 
 -- how many points have a d² within the limit
 abbrev pub pointsWithin : State → Location → ℕ → ℕ
-pointsWithin s p limit = count (λ (a : Point). leb (squared s p a) limit) (s .points)
+pointsWithin s p limit = count (λ (a : Point). leb (squared s p a) limit) (s .contents .points)
 
 -- they are the first in order, all that are within the limit, or eleven where these are more
 pub record HoldsFirst (s : State) (p : Location) (limit : ℕ) (b : Candidates) : Type 0 where

@@ -1,5 +1,5 @@
 -- Where a point comes in the order as one number, its key: d², then x, then y, then its index in the arrays, by which those that the order does not part stay as they come.
-use Prim.Native.Nat.{ℕ, _+_, _*_, _/_, _%_, _≤_}
+use Prim.Native.Nat.{ℕ, _+_, _-_, _*_, _/_, _%_, _^_, _≤_}
 use mathlib.Core.List.{List, map}
 use lib.Dec.{ltb}
 use lib.IntN.{ℤ, pos}
@@ -18,14 +18,14 @@ keyAt xs ys squares i = keyOf (getD squares i 0) (getD xs i 0 % 4096) (getD ys i
 
 -- what a key says, and the value at its index
 abbrev pub candidateOf : List ℤ → ℕ → Candidate
-candidateOf zs key = record { x = key / 1048576 % 4096; y = key / 256 % 4096; z = getD zs (key % 256) (pos 0); squared = key / 4294967296 }
+candidateOf zs key = record { x = key / 2 ^ 20 % 4096; y = key / 256 % 4096; z = getD zs (key % 256) (pos 0); squared = key / 2 ^ 32 }
 
 unfoldable pub Ascending : List ℕ → Type 0
 Ascending l = Pairs (λ a b. a ≤ b) l
 
 -- no key is greater
 abbrev pub noKey : ℕ
-noKey = 18446744073709551615
+noKey = 2 ^ 64 - 1
 
 -- the first eleven keys of the points at the indices l, in order, and behind them no key
 unfoldable pub firstKeys : List ℕ → List ℕ → List ℕ → List ℕ → List ℕ

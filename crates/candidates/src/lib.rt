@@ -7,8 +7,8 @@ ghost use lib.ListN.{length, take};
 ghost use mathlib.Core.Bool.{true};
 ghost use Rattle.model.specs.Lists.{All};
 ghost use Rattle.model.specs.Order.{insert};
-ghost use Rattle.model.specs.Point.{Location, inRange};
-ghost use Rattle.columns.specs.Columns.{surveyIn};
+ghost use Rattle.model.specs.Point.{Location, State, inRange};
+ghost use Rattle.point_arrays.specs.PointArrays.{HoldsPoints};
 ghost use Rattle.squares.specs.Squares.{HoldsSquares, Words};
 ghost use Rattle.candidates.specs.Keys.{keyOf, keyAt, candidateOf, Ascending, firstKeys};
 ghost use Rattle.candidates.specs.First.{listOf, HoldsFirst, InRange};
@@ -27,6 +27,13 @@ pub struct Candidates {
     pub count: usize,
 }
 
+// What 1 in y, in x and in d² counts in a key.
+const Y_UNIT: u64 = 256;
+
+const X_UNIT: u64 = 4096 * Y_UNIT;
+
+const SQUARED_UNIT: u64 = 4096 * X_UNIT;
+
 // Where a point comes in the order as one number, so that one comparison tells which of two comes first.
 fn key_of(squared: u32, x: u16, y: u16, i: u8) -> u64
     requires { ⌜ (x < 4096) × (y < 4096) ⌝ }
@@ -43,8 +50,8 @@ fn key_at<'a>(xs: &'a [u16; 256], ys: &'a [u16; 256], squares: &'a [u32], i: u8)
     let k = i as usize;
     key_of(
         squares[k],
-        columns::coordinate(xs[k]),
-        columns::coordinate(ys[k]),
+        point_arrays::coordinate(xs[k]),
+        point_arrays::coordinate(ys[k]),
         i,
     )
 }
@@ -88,7 +95,7 @@ fn first_keys<'a>(
     requires { ⌜ All (λ i. i < length (now squares)) (now at) ⌝ }
     ensures { λ r. ⌜ r ≡ firstKeys (now (xs .entry)) (now (ys .entry)) (now (squares .entry)) (now (at .entry)) ⌝ }
 {
-    let mut keys = [18446744073709551615u64; 11];
+    let mut keys = [u64::MAX; 11];
     let mut j: usize = 0;
     while j < at.len() {
         let next = put(keys, key_at(xs, ys, squares, at[j]));
@@ -104,10 +111,10 @@ fn candidate_of(zs: &[i8; 256], key: u64) -> Candidate
 {
     let i = (key % 256) as usize;
     Candidate {
-        x: (key / 1048576 % 4096) as u16,
-        y: (key / 256 % 4096) as u16,
+        x: (key / X_UNIT % 4096) as u16,
+        y: (key / Y_UNIT % 4096) as u16,
         z: zs[i],
-        squared: (key / 4294967296) as u32,
+        squared: (key / SQUARED_UNIT) as u32,
     }
 }
 
@@ -146,8 +153,8 @@ pub fn first<'a>(
     limit: u32,
 ) -> Candidates
     requires { ⌜ (length (now squares) ≤ 256) × Words (now squares) ⌝ }
-    ensures { λ r. ⌜ ((n : ℕ) (p : Location) → HoldsSquares (surveyIn (now (xs .entry)) (now (ys .entry)) (now (zs .entry)) n) p (now (squares .entry))
-        → HoldsFirst (surveyIn (now (xs .entry)) (now (ys .entry)) (now (zs .entry)) n) p limit r) ⌝ }
+    ensures { λ r. ⌜ ((s : State) (p : Location) (n : ℕ) → HoldsPoints s (now (xs .entry)) (now (ys .entry)) (now (zs .entry)) n → HoldsSquares s p (now (squares .entry))
+        → HoldsFirst s p limit r) ⌝ }
     ensures { λ r. ⌜ InRange (listOf r) ⌝ }
 {
     let mut at = [0u8; 256];

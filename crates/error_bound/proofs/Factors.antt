@@ -1,7 +1,7 @@
 -- A factor worked out in floats is the exact one but for six roundings, and above zero where the influence is not an edge.
 use mathlib.Core.Path.{_≡_, subst}
 use mathlib.Core.Bool.{false, true≢false}
-use Prim.Native.Nat.{ℕ, _-_, _*_, _≤_, _<_}
+use Prim.Native.Nat.{ℕ, _-_, _*_, _^_, _≤_, _<_}
 use native.Mathlib.Nat.{le-trans, mul-pos}
 use native.Mathlib.Omega.{arith}
 use lib.Dec.{lit<, lit≤}
@@ -20,12 +20,12 @@ unfolding ofBits ofInt oneF float
 one-close = int-close 1 0 (lit≤ tt) (lit≤ tt)
 
 -- a fraction of two whole numbers, divided as floats
-pub part-close : (a b : ℕ) → a ≤ 9007199254740992 → 0 < b → b ≤ 281474976710656 → Close 1 48 53 (div binary64 (float a) (float b)) (record { top = a; bot = b })
+pub part-close : (a b : ℕ) → a ≤ 2 ^ 53 → 0 < b → b ≤ 2 ^ 48 → Close 1 48 53 (div binary64 (float a) (float b)) (record { top = a; bot = b })
 part-close a b A B b' =
     subst (λ (f : Fraction). Close 1 48 53 (div binary64 (float a) (float b)) f) (over-whole a b)
     (div-close (unfold whole in B) (int-close a 53 A A) (int-close b 48 (le-trans b' (lit≤ tt)) b') tt)
 
-taper-close : (r d : ℕ) → d < r → r ≤ 16777216 → Close 6 74 53 (taperF r d) (record { top = 27 * ((r - d) * (r - d)); bot = 4 * (r * (r * r)) })
+taper-close : (r d : ℕ) → d < r → r ≤ 2 ^ 24 → Close 6 74 53 (taperF r d) (record { top = 27 * ((r - d) * (r - d)); bot = 4 * (r * (r * r)) })
 unfolding whole times taperF
 taper-close r d h b =
     let t : Close 0 0 24 (float (r - d)) (whole (r - d)) = int-close (r - d) 24 (omega arith) (omega arith) in

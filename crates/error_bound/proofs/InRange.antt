@@ -1,6 +1,6 @@
 -- Every lookup among points in the domain, in any order, the chosen ones with values in range, weighs a neighbourhood that the error bounds hold of.
 use mathlib.Core.Path.{_≡_, refl}
-use Prim.Native.Nat.{ℕ, _*_, _≤_, _<_}
+use Prim.Native.Nat.{ℕ, _*_, _^_, _≤_, _<_}
 use native.Mathlib.Nat.{mul-pos, mul-le-mul}
 use mathlib.Core.Bool.{Bool, true, false, cond}
 use lib.Dec.{leb, ltb, eqb}
@@ -23,7 +23,7 @@ use Rattle.laws.proofs.InnerLaws.{excess-most}
 use Rattle.error_bound.proofs.Fair.{Proper, Fair, Spread}
 
 -- an influence at a distance above 0
-proper : (few : Bool) (r d : ℕ) → 0 < d → d ≤ 16777216 → r ≤ 16777216 → Proper (influenceAt few r d)
+proper : (few : Bool) (r d : ℕ) → 0 < d → d ≤ 2 ^ 24 → r ≤ 2 ^ 24 → Proper (influenceAt few r d)
 unfolding influenceAt
 proper few r d D d' r' = go (eqb d 0) few (leb (3 * d) r) (ltb d r) refl
   where
@@ -37,8 +37,8 @@ proper few r d D d' r' = go (eqb d 0) few (leb (3 * d) r) (ltb d r) refl
 -- what a lookup goes by: a location in the domain, and one point or more, in the domain, whose values are in range where they are chosen
 pub record LookupInRange (s : State) (p : Location) : Type 0 where
   pub domain : (p .x < 4096) × (p .y < 4096)
-  pub some : 0 < length (s .points)
-  pub inside : All Inside (s .points)
+  pub some : 0 < length (s .contents .points)
+  pub inside : All Inside (s .contents .points)
   pub values : All (λ a. inRange (a .z) ≡ true) (choice s p .points)
 
 module _ (s : State) (p : Location) (A : LookupInRange s p) where
@@ -48,7 +48,7 @@ module _ (s : State) (p : Location) (A : LookupInRange s p) where
   chosen-inside : (i : ℕ) → i < length (choice s p .points) → Inside (chosen i)
   chosen-inside i l = all-below Inside (choice s p .points) i (point 0 0 (pos 0)) (chosen-all s p Inside (A .inside)) l
 
-  chosen-far : (i : ℕ) → i < length (choice s p .points) → distance s p (chosen i) ≤ 16777216
+  chosen-far : (i : ℕ) → i < length (choice s p .points) → distance s p (chosen i) ≤ 2 ^ 24
   chosen-far i l = point-most s p (A .domain) (chosen i) (chosen-inside i l)
 
   module _ (apart : coincident s p ≡ false) where
@@ -61,7 +61,7 @@ module _ (s : State) (p : Location) (A : LookupInRange s p) where
       some = chosen-some s p (A .some);
       most = chosen-most s p;
       influences = λ i l. proper (few s) (choice s p .radius) (distance s p (chosen i)) (chosen-off i l) (chosen-far i l) (chosen-radius s p (A .domain) (A .some) (A .inside));
-      excesses = λ i j k l. excess-most s p (chosen i) (chosen j) (A .domain) (chosen-inside i k) (chosen-inside j l) (chosen-far i k) (chosen-far j l);
+      excesses = λ i j k l. excess-most s p (A .domain) (chosen i) (chosen j) (chosen-inside i k) (chosen-inside j l) (chosen-far i k) (chosen-far j l);
       products = λ i j k l. (mul-pos (chosen-off i k) (chosen-off j l), mul-le-mul (chosen-far i k) (chosen-far j l));
     }
 

@@ -35,7 +35,7 @@ module _ (h : Neighbourhood) (least : ℤ) (F : Fair h) (S : Spread h least) whe
     most = λ i l. le-trans (S .small i l) (lit≤ tt);
   }
 
-  -- what `relative_error::nearest_half` asks of 512 times the mean
+  -- what `floats::nearest_half` asks of 512 times the mean
   pub mean-reach : T (plain (meanF h least)) × (num (meanF h least) < 4194304 * den (meanF h least))
   unfolding meanF
   mean-reach = scaled-reach (h .count) (weightF h) (weight h) (weights-of h F) (λ i. lessenedF least (h .value i)) (lessened h least) lessened-numbers 256 (lit≤ tt)

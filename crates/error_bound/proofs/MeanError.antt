@@ -76,7 +76,7 @@ module _ (n : ℕ) (w : ℕ → Float) (p : ℕ → Fraction) (W : Weights n w p
     scaled-within : Within 4194304 (scaledMeanF (2 * h) n w x) (times (whole (2 * h)) (meanOf n p f))
     scaled-within = close-near 4186112 4194304 (lit≤ tt) scaled-at-most (lit≤ tt) scaled-close
 
-    -- what `relative_error::nearest_half` asks
+    -- what `floats::nearest_half` asks
     pub scaled-reach : T (plain (scaledMeanF (2 * h) n w x)) × (num (scaledMeanF (2 * h) n w x) < 4194304 * den (scaledMeanF (2 * h) n w x))
     scaled-reach = (scaled-close .finite, in-reach (scaledMeanF (2 * h) n w x) (times (whole (2 * h)) (meanOf n p f)) (scaled-close .proper) scaled-at-most scaled-within)
 

@@ -7,12 +7,12 @@ use mathlib.Core.List.{List, [], _∷_, _++_, map, foldl-append}
 use lib.IntN.{ℤ}
 use lib.ListN.{length, getD}
 use Rattle.model.specs.Lists.{tabulate}
-use Rattle.model.specs.Point.{Point}
+use Rattle.model.specs.Point.{Point, State}
 use Rattle.model.specs.Distance.{rootIn, root}
 use Rattle.model.specs.Radius.{through, xs as xsOf, ys as ysOf, area, radiusOf, initialRadius}
 use Rattle.laws.proofs.ListLaws.{tabulate-more, length-tabulate}
-use Rattle.columns.specs.Columns.{held, wrapped, pointsIn, surveyIn}
-use Rattle.columns.proofs.ReadLaws.{length-points}
+use Rattle.point_arrays.specs.PointArrays.{held, wrapped, pointsIn, HoldsPoints}
+use Rattle.point_arrays.proofs.ReadLaws.{length-points}
 use Rattle.extent.specs.Coordinates.{coordinates}
 use Rattle.laws.proofs.MapLaws.{map-tabulate}
 
@@ -45,23 +45,23 @@ module _ (a : List ℕ) where
       }
 
 -- R0 of the points that arrays hold
-module _ (xs ys : List ℕ) (zs : List ℤ) (n m : ℕ) (em : m ≡ min n 256) where
-  xs-are : xsOf (surveyIn xs ys zs n) ≡ coordinates xs m
+module _ (s : State) (xs ys : List ℕ) (zs : List ℤ) (n m : ℕ) (points : HoldsPoints s xs ys zs n) (em : m ≡ min n 256) where
+  xs-are : xsOf s ≡ coordinates xs m
   unfolding pointsIn held coordinates
-  xs-are = rw em (ap (map (λ (a : Point). a .x)) (map-tabulate wrapped _ (min n 256)) ∙ map-tabulate (λ (a : Point). a .x) _ (min n 256))
+  xs-are = ap (map (λ (a : Point). a .x)) points ∙ rw em (ap (map (λ (a : Point). a .x)) (map-tabulate wrapped _ (min n 256)) ∙ map-tabulate (λ (a : Point). a .x) _ (min n 256))
 
-  ys-are : ysOf (surveyIn xs ys zs n) ≡ coordinates ys m
+  ys-are : ysOf s ≡ coordinates ys m
   unfolding pointsIn held coordinates
-  ys-are = rw em (ap (map (λ (a : Point). a .y)) (map-tabulate wrapped _ (min n 256)) ∙ map-tabulate (λ (a : Point). a .y) _ (min n 256))
+  ys-are = ap (map (λ (a : Point). a .y)) points ∙ rw em (ap (map (λ (a : Point). a .y)) (map-tabulate wrapped _ (min n 256)) ∙ map-tabulate (λ (a : Point). a .y) _ (min n 256))
 
-  number-is : length (pointsIn xs ys zs n) ≡ m
-  number-is = length-points xs ys zs n ∙ sym em
+  number-is : length (s .contents .points) ≡ m
+  number-is = ap length points ∙ length-points xs ys zs n ∙ sym em
 
   pub radius-in : (w h r : ℕ) → w ≡ through max (coordinates xs m) - through min (coordinates xs m)
-      → h ≡ through max (coordinates ys m) - through min (coordinates ys m) → r ≡ radiusOf (w * h) m → r ≡ initialRadius (surveyIn xs ys zs n)
+      → h ≡ through max (coordinates ys m) - through min (coordinates ys m) → r ≡ radiusOf (w * h) m → r ≡ initialRadius s
   unfolding initialRadius area
   radius-in w h r ew eh er = er ∙ rw (ew, eh, number-is, xs-are, ys-are)
 
-  pub radius-none : m ≡ 0 → 0 ≡ initialRadius (surveyIn xs ys zs n)
-  unfolding initialRadius area through radiusOf root rootIn pointsIn held tabulate
-  radius-none e = rw (← em, e)
+  pub radius-none : m ≡ 0 → 0 ≡ initialRadius s
+  unfolding initialRadius area through radiusOf root rootIn coordinates tabulate
+  radius-none e = rw (number-is, xs-are, ys-are, e)

@@ -3,8 +3,9 @@ ghost use mathlib.Core.Path.{_≡_};
 ghost use mathlib.Core.List.{List};
 ghost use lib.IntN.{ℤ};
 ghost use Prim.Native.Nat.{_-_, _<_, _≤_, min, max};
+ghost use Rattle.model.specs.Point.{State};
 ghost use Rattle.model.specs.Radius.{through, initialRadius};
-ghost use Rattle.columns.specs.Columns.{surveyIn};
+ghost use Rattle.point_arrays.specs.PointArrays.{HoldsPoints};
 ghost use Rattle.extent.specs.Coordinates.{coordinates};
 
 fn least(a: u16, b: u16) -> u16
@@ -25,11 +26,11 @@ fn span(a: &[u16; 256], m: usize) -> u16
     ensures { λ r. ⌜ r < 4096 ⌝ }
     ensures { λ r. ⌜ r ≡ through max (coordinates (now (a .entry)) m) - through min (coordinates (now (a .entry)) m) ⌝ }
 {
-    let mut low = columns::coordinate(a[0]);
+    let mut low = point_arrays::coordinate(a[0]);
     let mut high = low;
     let mut i: usize = 1;
     while i < m {
-        let v = columns::coordinate(a[i]);
+        let v = point_arrays::coordinate(a[i]);
         low = least(low, v);
         high = greatest(high, v);
         i += 1;
@@ -39,9 +40,9 @@ fn span(a: &[u16; 256], m: usize) -> u16
 
 // R0 of the points; 0 of none.
 pub fn initial_radius<'a>(xs: &'a [u16; 256], ys: &'a [u16; 256], n: usize) -> u32
-    ensures { λ r. ⌜ ((zs : List ℤ) → r ≡ initialRadius (surveyIn (now (xs .entry)) (now (ys .entry)) zs n)) ⌝ }
+    ensures { λ r. ⌜ ((s : State) (zs : List ℤ) → HoldsPoints s (now (xs .entry)) (now (ys .entry)) zs n → r ≡ initialRadius s) ⌝ }
 {
-    let m = columns::clamped(n);
+    let m = point_arrays::clamped(n);
     if m == 0 {
         return 0;
     }

@@ -1,5 +1,5 @@
 -- Facts that the proofs of this crate share.
 pub mod Rows
 pub mod Looked
-pub mod Outcomes
+pub mod FilledLaws
 pub mod Told

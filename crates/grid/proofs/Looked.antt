@@ -7,11 +7,11 @@ use Rattle.model.specs.Point.{Location, State}
 use Rattle.model.specs.Grid.{Grid, proper, cellLocation}
 use Rattle.laws.proofs.GridLaws.{cell-accepted}
 use Rattle.survey.specs.declared.Answer.{Answer}
-use Rattle.survey.specs.Answers.{found, lookedUp, Rounded}
+use Rattle.survey.specs.LookedUp.{found, lookedUp, Rounded}
 use Rattle.survey.proofs.Looking.{looked-up}
 use Rattle.grid.proofs.Rows.{CellRight}
 
-module _ (s : State) (g : Grid) (c r : ℕ) (rules : proper g ≡ true) (some : 0 < length (s .points)) (hc : c < g .columns) (hr : r < g .rows) where
+module _ (s : State) (g : Grid) (c r : ℕ) (rules : proper g ≡ true) (some : 0 < length (s .contents .points)) (hc : c < g .columns) (hr : r < g .rows) where
   abbrev p : Location
   p = cellLocation g c r
 

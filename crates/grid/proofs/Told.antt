@@ -13,14 +13,14 @@ use Rattle.model.specs.Grid.{Grid}
 use Rattle.model.specs.GridFile.{gridFile, gridFileRefusal, gridFileInto}
 use Rattle.survey_file.specs.declared.Written.{Written}
 use Rattle.survey_file.specs.declared.Written.the-variants.{Length, Refused}
-use Rattle.grid.specs.Outcome.{CellsRight, writtenAs, WrittenRight}
+use Rattle.grid.specs.FilledAs.{CellsRight, gridWrittenAs, WrittenRight}
 
-module _ (s : State) (g : Grid) (d : List ℕ) (q : Written) (e : q ≡ writtenAs s g (length d)) where
+module _ (s : State) (g : Grid) (d : List ℕ) (q : Written) (e : q ≡ gridWrittenAs s g (length d)) where
   abbrev no : ℕ
   no = gridFileRefusal g s (length d)
 
   pub told-refused : (k : ℕ) → q ≡ Refused k → (k ≡ no) × (k ≡ 0 → ⊥)
-  unfolding writtenAs
+  unfolding gridWrittenAs
   told-refused k h = by-test (eqb no 0) refl (sym e ∙ h)
     where
       by-test : (t : Bool) → eqb no 0 ≡ t → cond t (Length (length (gridFile s g))) (Refused no) ≡ Refused k → (k ≡ no) × (k ≡ 0 → ⊥)
@@ -29,7 +29,7 @@ module _ (s : State) (g : Grid) (d : List ℕ) (q : Written) (e : q ≡ writtenA
 
   module _ (k : ℕ) (h : q ≡ Length k) where
     told-length : (no ≡ 0) × (k ≡ length (gridFile s g))
-    unfolding writtenAs
+    unfolding gridWrittenAs
     told-length = by-test (eqb no 0) refl (sym e ∙ h)
       where
         by-test : (t : Bool) → eqb no 0 ≡ t → cond t (Length (length (gridFile s g))) (Refused no) ≡ Length k → (no ≡ 0) × (k ≡ length (gridFile s g))

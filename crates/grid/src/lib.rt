@@ -5,10 +5,10 @@ ghost use Prim.Native.Nat.{_<_};
 ghost use lib.ListN.{length};
 ghost use Rattle.model.specs.Grid.{proper, cellCount, cellLocation, row, cells as cellsOf, cellsInto};
 ghost use Rattle.model.specs.GridFile.{gridFile, gridFileLength, gridFileInto};
-ghost use Rattle.grid_rules.specs.Held.{gridOf};
-ghost use Rattle.survey.specs.Held.{stateOf};
-ghost use Rattle.survey.specs.Answers.{lookedUp, Rounded};
-ghost use Rattle.grid.specs.Outcome.{RowRight, CellsRight, filledAs, FilledRight, writtenAs, WrittenRight};
+ghost use Rattle.grid_rules.specs.GridOf.{gridOf};
+ghost use Rattle.survey.specs.StateOf.{stateOf};
+ghost use Rattle.survey.specs.LookedUp.{lookedUp, Rounded};
+ghost use Rattle.grid.specs.FilledAs.{RowRight, CellsRight, filledAs, FilledRight, gridWrittenAs, WrittenRight};
 pub use grid_rules::Grid;
 use survey::Answer;
 use survey::Survey;
@@ -33,7 +33,7 @@ fn look(s: Survey, g: Grid, c: usize, r: usize) -> Answer
 
 // The cells of row r, x ascending.
 fn fill_row(s: Survey, g: Grid, r: usize, out: &mut [i16])
-    requires { ⌜ (proper (gridOf g) ≡ true) × (0 < length (stateOf s .points)) × (r < g .rows) × (length (now out) ≡ g .columns) ⌝ }
+    requires { ⌜ (proper (gridOf g) ≡ true) × (0 < length (stateOf s .contents .points)) × (r < g .rows) × (length (now out) ≡ g .columns) ⌝ }
     ensures { λ _. ⌜ now (out .exit) ≡ row (stateOf s) (gridOf g) r ⌝ }
     ensures { λ _. ⌜ RowRight (stateOf s) (gridOf g) r ⌝ }
 {
@@ -50,7 +50,7 @@ fn fill_row(s: Survey, g: Grid, r: usize, out: &mut [i16])
 
 // All cells, y ascending.
 fn fill(s: Survey, g: Grid, out: &mut [i16])
-    requires { ⌜ (proper (gridOf g) ≡ true) × (0 < length (stateOf s .points)) × (length (now out) ≡ cellCount (gridOf g)) ⌝ }
+    requires { ⌜ (proper (gridOf g) ≡ true) × (0 < length (stateOf s .contents .points)) × (length (now out) ≡ cellCount (gridOf g)) ⌝ }
     ensures { λ _. ⌜ now (out .exit) ≡ cellsOf (stateOf s) (gridOf g) ⌝ }
     ensures { λ _. ⌜ CellsRight (stateOf s) (gridOf g) ⌝ }
 {
@@ -89,7 +89,7 @@ fn blank() -> [i16; 4096]
 
 // All bytes of the grid file.
 fn encode(s: Survey, g: Grid, out: &mut [u8])
-    requires { ⌜ (proper (gridOf g) ≡ true) × (0 < length (stateOf s .points)) × (length (now out) ≡ gridFileLength (gridOf g)) ⌝ }
+    requires { ⌜ (proper (gridOf g) ≡ true) × (0 < length (stateOf s .contents .points)) × (length (now out) ≡ gridFileLength (gridOf g)) ⌝ }
     ensures { λ _. ⌜ now (out .exit) ≡ gridFile (stateOf s) (gridOf g) ⌝ }
     ensures { λ _. ⌜ CellsRight (stateOf s) (gridOf g) ⌝ }
 {
@@ -101,7 +101,7 @@ fn encode(s: Survey, g: Grid, out: &mut [u8])
 
 // The grid file to the front of the lent bytes, and its length: refusals 7, 6, 8.
 pub fn write(s: Survey, g: Grid, out: &mut [u8]) -> Written
-    ensures { λ r. ⌜ r ≡ writtenAs (stateOf s) (gridOf g) (length (now (out .entry))) ⌝ }
+    ensures { λ r. ⌜ r ≡ gridWrittenAs (stateOf s) (gridOf g) (length (now (out .entry))) ⌝ }
     ensures { λ _. ⌜ now (out .exit) ≡ gridFileInto (stateOf s) (gridOf g) (now (out .entry)) ⌝ }
     ensures { λ r. ⌜ WrittenRight (stateOf s) (gridOf g) r ⌝ }
 {

@@ -3,7 +3,7 @@ ghost use mathlib.Core.Path.{_≡_};
 ghost use Prim.Native.Nat.{_+_, _*_, _≤_};
 ghost use lib.ListN.{length};
 ghost use Rattle.model.specs.GridFile.{cellsBytes, gridTrailer, fileOfCells};
-ghost use Rattle.grid_rules.specs.Held.{gridOf};
+ghost use Rattle.grid_rules.specs.GridOf.{gridOf};
 use grid_rules::Grid;
 
 const MAGIC: [u8; 4] = *b"RLG1";

@@ -14,7 +14,7 @@ use Rattle.laws.proofs.GridLaws.{room-enough}
 use Rattle.laws.proofs.ProgramLaws.{grid-decides, preamble-length, refused-output, file-output}
 use Rattle.survey_file.specs.declared.Written.{Written}
 use Rattle.survey_file.specs.declared.Written.the-variants.{Length, Refused}
-use Rattle.grid.specs.Outcome.{CellsRight, writtenAs, WrittenRight}
+use Rattle.grid.specs.FilledAs.{CellsRight, gridWrittenAs, WrittenRight}
 use Rattle.grid.proofs.Told.{told-refused, told-accepted, told-file, told-right}
 use Rattle.grid_program.specs.declared.Output.{Output}
 use Rattle.grid_program.specs.Output.{Puts, RunsAs}
@@ -50,9 +50,9 @@ module _ (f : List ℕ) where
 
 -- an accepted file that was read, and how many points it has
 module _ (f : List ℕ) (e : fileRefusal f ≡ 0) (s : State) (state : s ≡ stateIn f) where
-  module _ (n : ℕ) (count : n ≡ length (s .points)) where
+  module _ (n : ℕ) (count : n ≡ length (s .contents .points)) where
     counted : n ≡ length (filePoints f)
-    counted = count ∙ ap (λ (t : State). length (t .points)) state
+    counted = count ∙ ap (λ (t : State). length (t .contents .points)) state
 
     pub preamble-short : length f < 12 + 5 * n + 12 → recordStart f < 12
     preamble-short h = omega (arith, preamble-length f e, counted)
@@ -61,7 +61,7 @@ module _ (f : List ℕ) (e : fileRefusal f ≡ 0) (s : State) (state : s ≡ sta
     preamble-long h = omega (arith, preamble-length f e, counted)
 
   -- what `write` answers of the grid that its preamble begins with
-  module _ (start : 12 ≤ recordStart f) (g : Grid) (six : g ≡ gridIn f) (d : List ℕ) (room : 8212 ≤ length d) (q : Written) (h : q ≡ writtenAs s g (length d)) where
+  module _ (start : 12 ≤ recordStart f) (g : Grid) (six : g ≡ gridIn f) (d : List ℕ) (room : 8212 ≤ length d) (q : Written) (h : q ≡ gridWrittenAs s g (length d)) where
     decided : gridFileRefusal g s (length d) ≡ programRefusal f
     decided = rw (state, six) (room-enough (gridIn f) (stateIn f) (length d) room ∙ sym (grid-decides f e start))
 

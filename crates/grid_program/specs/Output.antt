@@ -4,7 +4,7 @@ use Prim.Native.Nat.{ℕ, _≤_}
 use mathlib.Core.List.{List}
 use lib.ListN.{length, take}
 use Rattle.model.specs.Program.{gridIn, stateIn, programRefusal, program}
-use Rattle.grid.specs.Outcome.{CellsRight}
+use Rattle.grid.specs.FilledAs.{CellsRight}
 use Rattle.grid_program.specs.declared.Output.{Output as Bytes}
 
 -- l is what stands at the front; what stands behind it is free

@@ -4,7 +4,7 @@ ghost use Prim.Native.Nat.{_+_, _<_};
 ghost use lib.ListN.{length};
 ghost use Rattle.model.specs.Bytes.{wordAt};
 ghost use Rattle.model.specs.Program.{gridIn, refusedText};
-ghost use Rattle.grid_rules.specs.Held.{gridOf};
+ghost use Rattle.grid_rules.specs.GridOf.{gridOf};
 ghost use Rattle.grid_program.specs.Output.{Puts, RunsAs};
 use grid_rules::Grid;
 use survey_file::Written;

@@ -27,8 +27,8 @@ module _ (start step count : ℕ) where
       pub last-decides : count ≤ 64 → leb (start + (count - 1) * step) 4095 ≡ axis start step count
       last-decides h = rw (le-leb 1 step apart, le-leb 1 count some, le-leb count 64 h)
 
-pub in-order : (g : Grid) (s : State) (n : ℕ) → firstOf (cond (proper g) 0 7) (cond (eqb (length (s .points)) 0) 6 0) n ≡ gridCheck g s n
-in-order g s n = by-rules (proper g) (eqb (length (s .points)) 0)
+pub in-order : (g : Grid) (s : State) (n : ℕ) → firstOf (cond (proper g) 0 7) (cond (eqb (length (s .contents .points)) 0) 6 0) n ≡ gridCheck g s n
+in-order g s n = by-rules (proper g) (eqb (length (s .contents .points)) 0)
   where
     by-rules : (t u : Bool) → firstOf (cond t 0 7) (cond u 6 0) n ≡ cond t (cond u 6 n) 7
     by-rules true true = refl

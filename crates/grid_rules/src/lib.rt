@@ -1,13 +1,13 @@
 // A grid's six numbers, their rules, and why a grid is refused: document 01, "Grid and grid file".
 ghost use mathlib.Core.Path.{_≡_};
 ghost use mathlib.Core.Bool.{cond};
-ghost use Prim.Native.Nat.{_+_, _*_, _<_};
+ghost use Prim.Native.Nat.{_+_, _*_, _^_, _<_};
 ghost use lib.Dec.{eqb};
 ghost use lib.ListN.{length};
 ghost use Rattle.model.specs.Point.{State};
-ghost use Rattle.model.specs.Calls.{enough};
+ghost use Rattle.model.specs.Refusals.{enough};
 ghost use Rattle.model.specs.Grid.{axis, proper, cellCount, gridCheck};
-ghost use Rattle.grid_rules.specs.Held.{gridOf};
+ghost use Rattle.grid_rules.specs.GridOf.{gridOf};
 
 // The first column and row stand at (x0, y0), the others a step apart.
 pub struct Grid {
@@ -54,12 +54,12 @@ fn is_proper(g: Grid) -> bool
 }
 
 pub fn cell_count(g: Grid) -> usize
-    ensures { λ r. ⌜ (r ≡ cellCount (gridOf g)) × (r < 4294967296) ⌝ }
+    ensures { λ r. ⌜ (r ≡ cellCount (gridOf g)) × (r < 2 ^ 32) ⌝ }
 {
     g.columns as usize * g.rows as usize
 }
 
-fn of_rules(g: Grid) -> u8
+fn rules_refusal(g: Grid) -> u8
     ensures { λ r. ⌜ r ≡ cond (proper (gridOf g)) 0 7 ⌝ }
 {
     if is_proper(g) {
@@ -68,7 +68,7 @@ fn of_rules(g: Grid) -> u8
     7
 }
 
-fn of_points(present: usize) -> u8
+fn empty_refusal(present: usize) -> u8
     ensures { λ r. ⌜ r ≡ cond (eqb present 0) 6 0 ⌝ }
 {
     if present == 0 {
@@ -77,7 +77,7 @@ fn of_points(present: usize) -> u8
     0
 }
 
-fn of_room(lent: usize, needed: usize) -> u8
+fn room_refusal(lent: usize, needed: usize) -> u8
     ensures { λ r. ⌜ r ≡ enough lent needed ⌝ }
 {
     if lent < needed {
@@ -101,10 +101,10 @@ fn first(a: u8, b: u8, c: u8) -> u8
 
 // Refusals 7, 6, 8, or 0: of a grid over `present` points that needs so many cells or bytes, where `lent` of them are lent.
 pub fn refusal(g: Grid, present: usize, lent: usize, needed: usize) -> u8
-    ensures { λ r. ⌜ ((s : State) → length (s .points) ≡ present → r ≡ gridCheck (gridOf g) s (enough lent needed)) ⌝ }
+    ensures { λ r. ⌜ ((s : State) → length (s .contents .points) ≡ present → r ≡ gridCheck (gridOf g) s (enough lent needed)) ⌝ }
 {
-    let rules = of_rules(g);
-    let points = of_points(present);
-    let room = of_room(lent, needed);
+    let rules = rules_refusal(g);
+    let points = empty_refusal(present);
+    let room = room_refusal(lent, needed);
     first(rules, points, room)
 }

@@ -11,16 +11,17 @@ use Rattle.model.specs.Lists.{All, Bytes}
 use Rattle.model.specs.Bytes.{bytes4, complement, signed}
 use contract.Lifetimes.{Lfts}
 use denote.Ref.{RefT}
-use Rattle.model.specs.Calls.{Call, Add, Change, Drop, Clear, Load, Lookup, LookupNeighbours, present}
+use Rattle.model.specs.Calls.{Call, Add, Change, Drop, Clear, Load, Ask, present}
 use Rattle.laws.proofs.ListLaws.{all-append}
 use Rattle.laws.proofs.ValueLaws.{mag-below}
 use Rattle.laws.proofs.Numbers.{long-back, bytes4-bytes, signed-back, complement-below}
-use Rattle.records.specs.declared.Record.{Record}
+use Rattle.neighbour_records.specs.declared.Record.{Record}
 use Rattle.survey.specs.declared.Answer.{Answer}
-use Rattle.survey.specs.declared.AnswerWithRecords.{AnswerWithRecords}
+use Rattle.lending.specs.declared.AnswerWithRecords.{AnswerWithRecords}
 use Rattle.history.specs.Claim.{Claim, ClaimLent}
-use Rattle.history.specs.Encoding.{callOf, fileLength, firstCalls, calls}
+use Rattle.history.specs.Encoding.{callOf, fileLength, numbersAt, firstCalls, calls}
 use Rattle.history.specs.Encoded.{callRecord, callBytes, callFile, encoded, files, SignedWord, Callable}
+use Rattle.history.proofs.Turns.{first-call}
 use Rattle.history.proofs.run_calls.Reads as run-calls-of
 use Rattle.history.proofs.run_calls_lending.Reads as run-calls-lending-of
 
@@ -28,11 +29,13 @@ use Rattle.history.proofs.run_calls_lending.Reads as run-calls-lending-
 abbrev low : ℕ → ℕ
 low n = n % 4294967296
 
-record-back : (op x y z n : ℕ) (j fs : List ℕ)
-    → firstCalls (suc n) (callRecord op x y z ++ j) fs
-    ≡ callOf op (low x) (low y) (low z) (take (fileLength op (low x) (low y)) fs) ∷ firstCalls n j (drop (fileLength op (low x) (low y)) fs)
-unfolding firstCalls
-record-back op x y z n j fs = rw (long-back x, long-back y, long-back z)
+numbers-back : (op a b c d e f : ℕ) (j : List ℕ) → numbersAt (callRecord op a b c d e f ++ j) 1 ≡ low a ∷ low b ∷ low c ∷ low d ∷ low e ∷ low f ∷ []
+numbers-back op a b c d e f j = rw (long-back a, long-back b, long-back c, long-back d, long-back e, long-back f)
+
+record-back : (op a b c d e f n : ℕ) (j fs : List ℕ)
+    → let w : List ℕ = low a ∷ low b ∷ low c ∷ low d ∷ low e ∷ low f ∷ [] in
+    firstCalls (suc n) (callRecord op a b c d e f ++ j) fs ≡ callOf op w (take (fileLength op w) fs) ∷ firstCalls n j (drop (fileLength op w) fs)
+record-back op a b c d e f n j fs = first-call n (callRecord op a b c d e f ++ j) fs ∙ rw (numbers-back op a b c d e f j)
 
 value-back : (z : ℤ) → SignedWord z → signed 2147483648 (low (complement 2147483648 z)) ≡ z
 value-back z h =
@@ -41,15 +44,14 @@ value-back z h =
 
 call-back : (c : Call) (n : ℕ) (j fs : List ℕ) → Callable c → firstCalls (suc n) (callBytes c ++ j) (callFile c ++ fs) ≡ c ∷ firstCalls n j fs
 unfolding callOf fileLength
-call-back (Add x y z) n j fs h = record-back 0 x y (complement 2147483648 z) n j fs ∙ rw (mod-eq-of-lt (h .0 .0), mod-eq-of-lt (h .0 .1), value-back z (h .1))
-call-back (Change x y z) n j fs h = record-back 1 x y (complement 2147483648 z) n j fs ∙ rw (mod-eq-of-lt (h .0 .0), mod-eq-of-lt (h .0 .1), value-back z (h .1))
-call-back (Drop x y) n j fs h = record-back 2 x y 0 n j fs ∙ rw (mod-eq-of-lt (h .0), mod-eq-of-lt (h .1))
-call-back Clear n j fs h = record-back 3 0 0 0 n j fs
+call-back (Add x y z) n j fs h = record-back 0 x y (complement 2147483648 z) 0 0 0 n j fs ∙ rw (mod-eq-of-lt (h .0 .0), mod-eq-of-lt (h .0 .1), value-back z (h .1))
+call-back (Change x y z) n j fs h = record-back 1 x y (complement 2147483648 z) 0 0 0 n j fs ∙ rw (mod-eq-of-lt (h .0 .0), mod-eq-of-lt (h .0 .1), value-back z (h .1))
+call-back (Drop x y) n j fs h = record-back 2 x y 0 0 0 0 n j fs ∙ rw (mod-eq-of-lt (h .0), mod-eq-of-lt (h .1))
+call-back Clear n j fs h = record-back 3 0 0 0 0 0 0 n j fs
 call-back (Load f) n j fs h =
     let e : 4294967296 * low (length f / 4294967296) + low (length f) ≡ length f = omega arith in
-    record-back 4 (length f / 4294967296) (length f) 0 n j (f ++ fs) ∙ rw (e, take-append-seam, drop-append-seam)
-call-back (Lookup x y) n j fs h = record-back 5 x y 0 n j fs ∙ rw (mod-eq-of-lt (h .0), mod-eq-of-lt (h .1))
-call-back (LookupNeighbours x y m) n j fs h = record-back 6 x y m n j fs ∙ rw (mod-eq-of-lt (h .0 .0), mod-eq-of-lt (h .0 .1), mod-eq-of-lt (h .1))
+    record-back 4 (length f / 4294967296) (length f) 0 0 0 0 n j (f ++ fs) ∙ rw (e, take-append-seam, drop-append-seam)
+call-back Ask n j fs h = record-back 255 0 0 0 0 0 0 n j fs
 
 each-back : (cs : List Call) → All Callable cs → firstCalls (length cs) (encoded cs) (files cs) ≡ cs
 unfolding firstCalls encoded files flatMap
@@ -58,31 +60,35 @@ each-back (c ∷ cs) h = call-back c (length cs) (encoded cs) (files cs) (h .0) 
 
 -- a record r and its file f
 record Written (r f : List ℕ) : Type 0 where
-  size : length r ≡ 13
+  size : length r ≡ 25
   bytes : Bytes r
   file : Bytes f
 
 abbrev Byte : ℕ → Type 0
 Byte b = b < 256
 
-written-of : (op x y z : ℕ) (f : List ℕ) → Byte op → Bytes f → Written (callRecord op x y z) f
-written-of op x y z f h b =
+written-of : (op a b c d e f : ℕ) (file : List ℕ) → Byte op → Bytes file → Written (callRecord op a b c d e f) file
+written-of op a b c d e f file h k =
+    let four : (m : ℕ) (l : List ℕ) → Bytes l → Bytes (bytes4 m ++ l) = λ m l g. all-append Byte (bytes4 m) l (bytes4-bytes m) g in
     record {
       size = refl;
-      bytes = (h, all-append Byte (bytes4 x) (bytes4 y ++ bytes4 z) (bytes4-bytes x) (all-append Byte (bytes4 y) (bytes4 z) (bytes4-bytes y) (bytes4-bytes z)));
-      file = b;
+      bytes = (
+        h,
+        four a (bytes4 b ++ bytes4 c ++ bytes4 d ++ bytes4 e ++ bytes4 f) (four b (bytes4 c ++ bytes4 d ++ bytes4 e ++ bytes4 f)
+            (four c (bytes4 d ++ bytes4 e ++ bytes4 f) (four d (bytes4 e ++ bytes4 f) (four e (bytes4 f) (bytes4-bytes f))))),
+      );
+      file = k;
     }
 
 written : (c : Call) → Callable c → Written (callBytes c) (callFile c)
-written (Add x y z) h = written-of 0 x y (complement 2147483648 z) [] (omega arith) tt
-written (Change x y z) h = written-of 1 x y (complement 2147483648 z) [] (omega arith) tt
-written (Drop x y) h = written-of 2 x y 0 [] (omega arith) tt
-written Clear h = written-of 3 0 0 0 [] (omega arith) tt
-written (Load f) h = written-of 4 (length f / 4294967296) (length f) 0 f (omega arith) (h .0)
-written (Lookup x y) h = written-of 5 x y 0 [] (omega arith) tt
-written (LookupNeighbours x y n) h = written-of 6 x y n [] (omega arith) tt
+written (Add x y z) h = written-of 0 x y (complement 2147483648 z) 0 0 0 [] (omega arith) tt
+written (Change x y z) h = written-of 1 x y (complement 2147483648 z) 0 0 0 [] (omega arith) tt
+written (Drop x y) h = written-of 2 x y 0 0 0 0 [] (omega arith) tt
+written Clear h = written-of 3 0 0 0 0 0 0 [] (omega arith) tt
+written (Load f) h = written-of 4 (length f / 4294967296) (length f) 0 0 0 0 f (omega arith) (h .0)
+written Ask h = written-of 255 0 0 0 0 0 0 [] (omega arith) tt
 
-encoded-length : (cs : List Call) → All Callable cs → length (encoded cs) ≡ 13 * length cs
+encoded-length : (cs : List Call) → All Callable cs → length (encoded cs) ≡ 25 * length cs
 unfolding encoded flatMap
 encoded-length [] h = refl
 encoded-length (c ∷ cs) h = rw length-append (omega (arith, written c (h .0) .size, encoded-length cs (h .1)))
@@ -90,7 +96,7 @@ encoded-length (c ∷ cs) h = rw length-append (omega (arith, written c (h .0) .
 pub every : (cs : List Call) → All Callable cs → calls (encoded cs) (files cs) ≡ cs
 unfolding calls
 every cs h =
-    let n : length (encoded cs) / 13 ≡ length cs = omega (arith, encoded-length cs h) in
+    let n : length (encoded cs) / 25 ≡ length cs = omega (arith, encoded-length cs h) in
     rw n (each-back cs h)
 
 pub encoded-bytes : (cs : List Call) → All Callable cs → Bytes (encoded cs)

@@ -3,60 +3,69 @@ use mathlib.Core.Path.{_≡_, sym, ap, _∙_}
 use Prim.Native.Nat.{ℕ}
 use mathlib.Core.List.{List, [], _∷_, _++_}
 use lib.ListN.{length, take}
-use Rattle.model.specs.Calls.{Call, Add, Change, Drop, Clear, Load, Lookup, LookupNeighbours, after, afterAll, present}
+use Rattle.model.specs.Point.{Contents, State, settled}
+use Rattle.model.specs.Calls.{Call, after, afterAll, present, edited}
 use Rattle.model.specs.Invariant.{Invariant}
-use Rattle.laws.proofs.CallLaws.{after-lookup, after-lookup-neighbours, present-more}
+use Rattle.laws.proofs.CallLaws.{after-ask, edited-settled, present-more}
 use Rattle.laws.proofs.HistoryInvariant.{history-invariant}
-use Rattle.records.specs.declared.Record.{Record}
+use Rattle.neighbour_records.specs.declared.Record.{Record}
 use Rattle.survey.specs.declared.Survey.{Survey}
+use Rattle.survey.specs.declared.Reply.{Reply}
 use Rattle.survey.specs.declared.Answer.{Answer}
-use Rattle.survey.specs.declared.AnswerWithRecords.{AnswerWithRecords}
-use Rattle.survey.specs.Held.{stateOf, Plain}
+use Rattle.survey.specs.StateOf.{contentsIn, stateOf, Plain}
+use Rattle.survey.specs.Replies.{Replies}
 use Rattle.survey.proofs.lookup.Reads as lookup-of
-use Rattle.survey.proofs.lookup_lending.Reads as lookup-lending-of
+use Rattle.lending.specs.declared.AnswerWithRecords.{AnswerWithRecords}
+use Rattle.lending.specs.LentAs.{LentAs}
+use Rattle.lending.proofs.lookup_lending.Reads as lookup-lending-of
 use Rattle.history.specs.Claim.{Claim, ClaimLent}
-use Rattle.history.specs.Runs.{Runs, fresh, add, change, drop, clear, load, lookup, lookup-lending, lookup-neighbours}
-use Rattle.history.proofs.ClaimLaws.{claim-of, claim-lent-of}
+use Rattle.history.specs.Runs.{Makes, add, change, drop, clear, load, asks, Runs, fresh, more}
+use Rattle.history.proofs.ClaimLaws.{claim-of, claim-lent-of, claim-lending-of}
 
--- one call more
-more : (cs : List Call) (c : Call) (s t : Survey) → stateOf s ≡ present cs → stateOf t ≡ after c (stateOf s) → stateOf t ≡ present (cs ++ c ∷ [])
-more cs c s t p q = q ∙ ap (after c) p ∙ sym (present-more cs c)
+-- an edit of a survey whose state is settled
+pub replied : (c : Call) (s : Survey) (r : Reply) → Replies c s r → (q : Contents) → stateOf s ≡ settled q → stateOf (r .survey) ≡ settled (after c q)
+replied c s r p q e = p .state ∙ ap (edited c) e ∙ edited-settled c q
+
+-- one call leaves in the survey what the model says, and nothing that is read otherwise than it stands
+made : {c : Call} {s t : Survey} → Makes c s t → (q : Contents) → stateOf s ≡ settled q → stateOf t ≡ settled (after c q)
+made (add s x y z r p) = replied _ s r p
+made (change s x y z r p) = replied _ s r p
+made (drop s x y r p) = replied _ s r p
+made (clear s r p) = replied _ s r p
+made (load s κs file r p) = replied _ s r p
+made (asks s) = λ q e. e ∙ ap settled (sym (after-ask q))
+
+made-plain : {c : Call} {s t : Survey} → Makes c s t → Plain s → Plain t
+made-plain (add s x y z r p) = p .plain
+made-plain (change s x y z r p) = p .plain
+made-plain (drop s x y r p) = p .plain
+made-plain (clear s r p) = p .plain
+made-plain (load s κs file r p) = p .plain
+made-plain (asks s) = λ p. p
 
 -- a list of calls leaves in the survey what the model says is present
-pub leaves : {cs : List Call} {s : Survey} → Runs cs s → stateOf s ≡ present cs
+pub leaves : {cs : List Call} {s : Survey} → Runs cs s → stateOf s ≡ settled (present cs)
 unfolding present afterAll
 leaves (fresh s p) = p .0
-leaves (add {cs = cs} {s = s} h x y z r p) = more cs (Add x y z) s (r .survey) (leaves h) (p .state)
-leaves (change {cs = cs} {s = s} h x y z r p) = more cs (Change x y z) s (r .survey) (leaves h) (p .state)
-leaves (drop {cs = cs} {s = s} h x y r p) = more cs (Drop x y) s (r .survey) (leaves h) (p .state)
-leaves (clear {cs = cs} {s = s} h r p) = more cs Clear s (r .survey) (leaves h) (p .state)
-leaves (load {cs = cs} {s = s} h κs file r p) = more cs (Load (file .now)) s (r .survey) (leaves h) (p .state)
-leaves (lookup {cs = cs} {s = s} h x y a p) = more cs (Lookup x y) s s (leaves h) (sym (after-lookup x y (stateOf s)))
-leaves (lookup-lending {cs = cs} {s = s} h x y l n r p) =
-    more cs (LookupNeighbours x y (length (take n l))) s s (leaves h) (sym (after-lookup-neighbours x y (length (take n l)) (stateOf s)))
-leaves (lookup-neighbours {cs = cs} {s = s} h x y n) = more cs (LookupNeighbours x y n) s s (leaves h) (sym (after-lookup-neighbours x y n (stateOf s)))
+leaves (more cs c s t h m) = made m (present cs) (leaves h) ∙ ap settled (sym (present-more cs c))
 
--- nothing in it is read otherwise than it stands
 pub stays-plain : {cs : List Call} {s : Survey} → Runs cs s → Plain s
 stays-plain (fresh s p) = p .1
-stays-plain (add h x y z r p) = p .plain (stays-plain h)
-stays-plain (change h x y z r p) = p .plain (stays-plain h)
-stays-plain (drop h x y r p) = p .plain (stays-plain h)
-stays-plain (clear h r p) = p .plain (stays-plain h)
-stays-plain (load h κs file r p) = p .plain (stays-plain h)
-stays-plain (lookup h x y a p) = stays-plain h
-stays-plain (lookup-lending h x y l n r p) = stays-plain h
-stays-plain (lookup-neighbours h x y n) = stays-plain h
+stays-plain (more cs c s t h m) = made-plain m (stays-plain h)
 
 -- at most 256 points, ascending, in the domain and in range
-pub survey-invariant : {cs : List Call} {s : Survey} → Runs cs s → Invariant (stateOf s)
-survey-invariant {cs} h = rw (leaves h) (history-invariant cs)
+pub survey-invariant : {cs : List Call} {s : Survey} → Runs cs s → Invariant (contentsIn s .points)
+survey-invariant {cs} h = rw (ap (λ (t : State). t .contents .points) (leaves h)) (history-invariant cs)
 
 module _ {cs : List Call} {s : Survey} (h : Runs cs s) (x y : ℕ) where
   pub demand-3 : (a : Answer) → lookup-of.Post tt (s, (x, (y, tt))) a (s, (x, (y, tt))) → Claim x y (present cs) a
-  demand-3 a p = rw (leaves h) at (claim-of x y (stateOf s) a (p .0) (p .1))
+  demand-3 a p = claim-of x y (present cs) a (rw (leaves h) at (p .0)) (rw (leaves h) at (p .1))
 
-  -- lent the first n records of l
-  pub demand-3-neighbours : (l : List Record) (n : ℕ) (r : AnswerWithRecords) → lookup-lending-of.Post tt (s, (x, (y, (l, (n, tt))))) r (s, (x, (y, (l, (n, tt)))))
+  -- of `lookup_neighbours`, lent a list that was l and is k after it: its contract's clause
+  pub demand-3-lent : (l k : List Record) (a : Answer) → LentAs (stateOf s) x y l a k → ClaimLent x y (length l) (present cs) a l k
+  demand-3-lent l k a p = claim-lent-of x y (present cs) l a k (rw (leaves h) at p)
+
+  -- of `lookup_lending`, lent the first n records of l
+  pub demand-3-lending : (l : List Record) (n : ℕ) (r : AnswerWithRecords) → lookup-lending-of.Post tt (s, (x, (y, (l, (n, tt))))) r (s, (x, (y, (l, (n, tt)))))
       → ClaimLent x y (length (take n l)) (present cs) (r .answer) l (r .records)
-  demand-3-neighbours l n r p = rw (leaves h) at (claim-lent-of x y (stateOf s) (r .answer) l (r .records) n (p .0) (p .1) (p .2))
+  demand-3-lending l n r p = let f = rw (leaves h) at p in claim-lending-of x y (present cs) (r .answer) l (r .records) n (f .0) (f .1) (f .2)

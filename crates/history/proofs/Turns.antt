@@ -1,16 +1,16 @@
 -- A loop over n records, as a program runs it: its start, one turn, which makes the call of the record at index i, and its end.
-use mathlib.Core.Path.{_≡_, sym, ap, _∙_}
+use mathlib.Core.Path.{_≡_, refl, sym, ap, _∙_}
 use Prim.Native.Nat.{ℕ, zero, suc, _+_, _-_, _*_, _/_, _≤_, _<_, min}
 use native.Mathlib.Nat.{add-zero, zero-min, min-zero, suc-min-suc}
 use native.Mathlib.Omega.{arith}
 use mathlib.Core.List.{List, [], _∷_}
 use lib.ListN.{length, take, drop, getD, length-drop}
 use lib.Seq.{getD-drop, drop-drop}
-use Rattle.model.specs.Point.{State}
+use Rattle.model.specs.Point.{Contents}
 use Rattle.model.specs.Bytes.{longAt}
 use Rattle.model.specs.Calls.{Call, fresh, after, afterAll, present}
 use Rattle.laws.proofs.RoundTrip.{long-drop}
-use Rattle.history.specs.Encoding.{callOf, fileLength, firstCalls, calls}
+use Rattle.history.specs.Encoding.{callOf, fileLength, numbersAt, firstCalls, calls}
 
 take-min : (n : ℕ) (l : List ℕ) → take (min n (length l)) l ≡ take n l
 take-min zero l = rw zero-min
@@ -37,35 +37,44 @@ module _ (fs : List ℕ) (start n end : ℕ) (h : start ≤ length fs) (e : end 
 
 -- the calls of n records from index i on, whose files stand from start on
 abbrev pub remaining : List ℕ → List ℕ → ℕ → ℕ → ℕ → List Call
-remaining j fs n i start = firstCalls (n - i) (drop (13 * i) j) (drop start fs)
+remaining j fs n i start = firstCalls (n - i) (drop (25 * i) j) (drop start fs)
 
-pub starts : (j fs : List ℕ) (n : ℕ) → n ≡ length j / 13 → afterAll (remaining j fs n 0 0) fresh ≡ present (calls j fs)
+pub starts : (j fs : List ℕ) (n : ℕ) → n ≡ length j / 25 → afterAll (remaining j fs n 0 0) fresh ≡ present (calls j fs)
 unfolding present calls
-starts j fs n e = let m : n - 0 ≡ length j / 13 = omega arith in rw m
+starts j fs n e = let m : n - 0 ≡ length j / 25 = omega arith in rw m
+
+-- the first of n + 1 calls, and the others
+pub first-call : (n : ℕ) (j fs : List ℕ)
+    → firstCalls (suc n) j fs
+    ≡ callOf (getD j 0 0) (numbersAt j 1) (take (fileLength (getD j 0 0) (numbersAt j 1)) fs) ∷ firstCalls n (drop 25 j) (drop (fileLength (getD j 0 0) (numbersAt j 1)) fs)
+unfolding firstCalls
+first-call n j fs = refl
+
+-- numbers read where they stand
+numbers-drop : (j : List ℕ) (k : ℕ) → numbersAt (drop k j) 1 ≡ numbersAt j (k + 1)
+numbers-drop j k =
+    let at : (i m : ℕ) → k + i ≡ m → longAt (drop k j) i ≡ longAt j m = λ i m e. sym (long-drop j k i) ∙ ap (longAt j) e in
+    rw (at 1 (k + 1) (omega arith), at 5 (k + 1 + 4) (omega arith), at 9 (k + 1 + 8) (omega arith), at 13 (k + 1 + 12) (omega arith), at 17 (k + 1 + 16) (omega arith), at 21 (k + 1 + 20) (omega arith))
 
 -- the record at index i, read where it stands
-record-at : (j fs : List ℕ) (n i op x y z : ℕ)
-    → op ≡ getD j (13 * i) 0 → x ≡ longAt j (13 * i + 1) → y ≡ longAt j (13 * i + 5) → z ≡ longAt j (13 * i + 9)
-    → firstCalls (suc n) (drop (13 * i) j) fs
-    ≡ callOf op x y z (take (fileLength op x y) fs) ∷ firstCalls n (drop (13 * (i + 1)) j) (drop (fileLength op x y) fs)
-unfolding firstCalls
-record-at j fs n i op x y z eo ex ey ez =
-    let e₀ : getD (drop (13 * i) j) 0 0 ≡ op = rw (getD-drop, add-zero) (sym eo) in
-    let next : 13 * i + 13 ≡ 13 * (i + 1) = omega arith in
-    rw (e₀, ← long-drop j (13 * i) 1, ← ex, ← long-drop j (13 * i) 5, ← ey, ← long-drop j (13 * i) 9, ← ez, drop-drop 13 (13 * i) j, next)
+record-at : (j fs : List ℕ) (n i op : ℕ) (w : List ℕ) → op ≡ getD j (25 * i) 0 → w ≡ numbersAt j (25 * i + 1)
+    → firstCalls (suc n) (drop (25 * i) j) fs ≡ callOf op w (take (fileLength op w) fs) ∷ firstCalls n (drop (25 * (i + 1)) j) (drop (fileLength op w) fs)
+record-at j fs n i op w eo ew =
+    let e₀ : getD (drop (25 * i) j) 0 0 ≡ op = rw (getD-drop, add-zero) (sym eo) in
+    let e₁ : numbersAt (drop (25 * i) j) 1 ≡ w = numbers-drop j (25 * i) ∙ sym ew in
+    let next : 25 * i + 25 ≡ 25 * (i + 1) = omega arith in
+    rw (first-call, e₀, e₁, drop-drop 25 (25 * i) j, next)
 
 -- a turn makes the call of the record at index i: what the calls from there on leave is the same before it and after it
-pub turn : (j fs : List ℕ) (n i start op x y z end : ℕ) (s t : State) → i < n → start ≤ length fs
-    → op ≡ getD j (13 * i) 0 → x ≡ longAt j (13 * i + 1) → y ≡ longAt j (13 * i + 5) → z ≡ longAt j (13 * i + 9)
-    → end ≡ min (start + fileLength op x y) (length fs)
-    → t ≡ after (callOf op x y z (take (end - start) (drop start fs))) s
-    → afterAll (remaining j fs n (i + 1) end) t ≡ afterAll (remaining j fs n i start) s
+pub turn : (j fs : List ℕ) (n i start op : ℕ) (w : List ℕ) (end : ℕ) (q : Contents) → i < n → start ≤ length fs
+    → op ≡ getD j (25 * i) 0 → w ≡ numbersAt j (25 * i + 1) → end ≡ min (start + fileLength op w) (length fs)
+    → afterAll (remaining j fs n (i + 1) end) (after (callOf op w (take (end - start) (drop start fs))) q) ≡ afterAll (remaining j fs n i start) q
 unfolding afterAll
-turn j fs n i start op x y z end s t l h eo ex ey ez ee et =
+turn j fs n i start op w end q l h eo ew ee =
     let m : n - i ≡ suc (n - (i + 1)) = omega arith in
-    let size = fileLength op x y in
-    rw (m, record-at j (drop start fs) (n - (i + 1)) i op x y z eo ex ey ez, et, part-take fs start size end h ee, part-drop fs start size end h ee)
+    let size = fileLength op w in
+    rw (m, record-at j (drop start fs) (n - (i + 1)) i op w eo ew, part-take fs start size end h ee, part-drop fs start size end h ee)
 
-pub ends : (j fs : List ℕ) (n i start : ℕ) (s : State) → n ≤ i → afterAll (remaining j fs n i start) s ≡ s
+pub ends : (j fs : List ℕ) (n i start : ℕ) (q : Contents) → n ≤ i → afterAll (remaining j fs n i start) q ≡ q
 unfolding afterAll firstCalls
-ends j fs n i start s h = let m : n - i ≡ 0 = omega arith in rw m
+ends j fs n i start q h = let m : n - i ≡ 0 = omega arith in rw m

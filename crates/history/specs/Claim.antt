@@ -5,21 +5,21 @@ use mathlib.Core.Logic.{_↔_}
 use mathlib.Core.Bool.{true}
 use mathlib.Core.List.{List, []}
 use lib.IntN.{ℤ}
-use Rattle.model.specs.Point.{State, location, inDomain}
+use Rattle.model.specs.Point.{Contents, settled, location, inDomain}
 use Rattle.model.specs.Mean.{Right}
-use Rattle.records.specs.declared.Record.{Record}
+use Rattle.neighbour_records.specs.declared.Record.{Record}
 use Rattle.survey.specs.declared.Answer.{Answer}
 use Rattle.survey.specs.declared.Answer.the-variants.{Found, Refused}
 
 -- at a location in the domain: 6 exactly where no point is present, and otherwise an answer within 129/65,536 of the exact mean
 -- and between the least and the greatest chosen value
-pub record Claim (x y : ℕ) (s : State) (a : Answer) : Type 0 where
-  pub six : inDomain x y ≡ true → (a ≡ Refused 6) ↔ (s .points ≡ [])
-  pub right : inDomain x y ≡ true → (s .points ≡ [] → ⊥) → (v : ℤ) × (n r : ℕ) × (a ≡ Found v n r) × Right s (location x y) v
+pub record Claim (x y : ℕ) (q : Contents) (a : Answer) : Type 0 where
+  pub six : inDomain x y ≡ true → (a ≡ Refused 6) ↔ (q .points ≡ [])
+  pub right : inDomain x y ≡ true → (q .points ≡ [] → ⊥) → (v : ℤ) × (n r : ℕ) × (a ≡ Found v n r) × Right (settled q) (location x y) v
 
 -- where n records are lent, of a list that was l and is k after it: under ten give 8, after 1 and 6, and change nothing; from ten on the claim holds
-pub record ClaimLent (x y n : ℕ) (s : State) (a : Answer) (l k : List Record) : Type 0 where
-  pub six : n < 10 → inDomain x y ≡ true → s .points ≡ [] → a ≡ Refused 6
-  pub eight : n < 10 → inDomain x y ≡ true → (s .points ≡ [] → ⊥) → a ≡ Refused 8
+pub record ClaimLent (x y n : ℕ) (q : Contents) (a : Answer) (l k : List Record) : Type 0 where
+  pub six : n < 10 → inDomain x y ≡ true → q .points ≡ [] → a ≡ Refused 6
+  pub eight : n < 10 → inDomain x y ≡ true → (q .points ≡ [] → ⊥) → a ≡ Refused 8
   pub unaltered : n < 10 → k ≡ l
-  pub enough : 10 ≤ n → Claim x y s a
+  pub enough : 10 ≤ n → Claim x y q a

@@ -4,7 +4,7 @@ ghost use Prim.Native.Nat.{_≤_};
 ghost use Rattle.model.specs.Influence.{inverse, tapered, influenceAt};
 ghost use Rattle.model.specs.Computed.{factorF};
 ghost use Rattle.influence.specs.Carried.{carried, kindOf, factorOf, edgeOf};
-use relative_error::to_float;
+use floats::to_float;
 
 // The four influences, with the factor where it has to be worked out.
 pub enum Influence {

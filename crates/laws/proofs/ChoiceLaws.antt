@@ -94,11 +94,11 @@ module _ (s : State) (p : Location) where
       ∙ rw (insert-starts, or-comm (at (p .x) (p .y) a) (startsAt p l)) (or-assoc (startsAt p l) (at (p .x) (p .y) a) (taken (p .x) (p .y) m))
 
   -- the test of rule 1 is the test whether any point is at p
-  pub coincident-is : coincident s p ≡ taken (p .x) (p .y) (s .points)
+  pub coincident-is : coincident s p ≡ taken (p .x) (p .y) (s .contents .points)
   unfolding coincident ordered sort startsAt
-  coincident-is = sort-starts [] (s .points)
+  coincident-is = sort-starts [] (s .contents .points)
 
-  pub rule-one : taken (p .x) (p .y) (s .points) ≡ true → Alone p (choice s p)
+  pub rule-one : taken (p .x) (p .y) (s .contents .points) ≡ true → Alone p (choice s p)
   unfolding choice
   rule-one h = first-alone p (ordered s p) (choiceApart s p) (coincident-is ∙ h)
 
@@ -114,9 +114,9 @@ module _ (s : State) (p : Location) where
   -- all points in order: no later one is nearer, or as near and first by x, then y
   pub order-settled : Pairs (λ a b. nearer s p b a ≡ false) (ordered s p)
   unfolding ordered
-  order-settled = sort-settled (nearer s p) nearer-self nearer-trans (s .points)
+  order-settled = sort-settled (nearer s p) nearer-self nearer-trans (s .contents .points)
 
   -- and all points: as many as the survey has answer to any test
-  pub order-count : (f : Point → Bool) → count f (ordered s p) ≡ count f (s .points)
+  pub order-count : (f : Point → Bool) → count f (ordered s p) ≡ count f (s .contents .points)
   unfolding ordered
-  order-count f = sort-count (nearer s p) f (s .points)
+  order-count f = sort-count (nearer s p) f (s .contents .points)

@@ -1,6 +1,6 @@
 -- What holds of the chosen points and of R: they are some of the points, one to ten, and neither distances nor R are beyond 2²⁴ for points in the domain.
 use mathlib.Core.Path.{_≡_, refl, sym, ap, _∙_}
-use Prim.Native.Nat.{ℕ, _-_, _*_, _/_, _≤_, _<_, min, max}
+use Prim.Native.Nat.{ℕ, _-_, _*_, _/_, _^_, _≤_, _<_, min, max}
 use native.Mathlib.Nat.{le-refl, mul-le-mul, le-div-iff-mul-le}
 use native.Mathlib.Omega.{arith}
 use mathlib.Core.Bool.{Bool, true, false, cond, false≢true}
@@ -28,8 +28,8 @@ abbrev pub Inside : Point → Type 0
 Inside a = (a .x < 4096) × (a .y < 4096)
 
 -- D of a squared distance that fits 32 bits
-pub distance-most : (n : ℕ) → n < 4294967296 → distanceOf n ≤ 16777216
-distance-most n h = distance-le-iff n 16777216 .1 (omega arith)
+pub distance-most : (n : ℕ) → n < 4294967296 → distanceOf n ≤ 2 ^ 24
+distance-most n h = distance-le-iff n (2 ^ 24) .1 (omega arith)
 
 gap-most : (m n : ℕ) → m < 4096 → n < 4096 → gap m n ≤ 4095
 gap-most m n h k = omega arith
@@ -47,21 +47,21 @@ below : (q m a : ℕ) → 355 ≤ m → q * m ≤ 65536 * 7 * 113 * a → a ≤ 
 below q m a h k l = let g : q * 355 ≤ q * m = mul-le-mul (le-refl q) h in omega arith
 
 -- R0 of an area in the domain
-pub radius-most : (a n : ℕ) → 0 < n → a ≤ 16769025 → radiusOf a n ≤ 16777216
+pub radius-most : (a n : ℕ) → 0 < n → a ≤ 16769025 → radiusOf a n ≤ 2 ^ 24
 unfolding radiusOf
 radius-most a n h k =
     let q = 65536 * 7 * 113 * a / (355 * n) in
     let m : 0 < 355 * n = omega arith in
-    root-le-iff q 16777216 .1 (below q (355 * n) a (omega arith) (le-div-iff-mul-le m .0 (le-refl q)) k)
+    root-le-iff q (2 ^ 24) .1 (below q (355 * n) a (omega arith) (le-div-iff-mul-le m .0 (le-refl q)) k)
 
 pub apart-points : (x y : ℕ) (l : List Point) → taken x y l ≡ false → All (λ a. at x y a ≡ false) l
 apart-points x y [] h = tt
 apart-points x y (a ∷ l) h = let e = or-false (at x y a) (taken x y l) h in (e .0, apart-points x y l (e .1))
 
 module _ (s : State) (p : Location) where
-  pub ordered-all : (P : Point → Type 0) → All P (s .points) → All P (ordered s p)
+  pub ordered-all : (P : Point → Type 0) → All P (s .contents .points) → All P (ordered s p)
   unfolding ordered
-  ordered-all P h = sort-all (nearer s p) P (s .points) h
+  ordered-all P h = sort-all (nearer s p) P (s .contents .points) h
 
   -- the rules by count, one after the other
   by-count : (Q : Choice → Type 0) (n : ℕ)
@@ -90,7 +90,7 @@ module _ (s : State) (p : Location) where
       go false = apart
 
   -- each chosen point is one of the points
-  apart-all : (P : Point → Type 0) → All P (s .points) → All P (choiceApart s p .points)
+  apart-all : (P : Point → Type 0) → All P (s .contents .points) → All P (choiceApart s p .points)
   unfolding choiceApart
   apart-all P h =
       by-count (λ c. All P (c .points)) (within s p)
@@ -98,17 +98,17 @@ module _ (s : State) (p : Location) where
       (λ k l. all-take P (within s p) (ordered s p) (ordered-all P h))
       (λ l. all-take P 10 (ordered s p) (ordered-all P h))
 
-  pub chosen-all : (P : Point → Type 0) → All P (s .points) → All P (choice s p .points)
+  pub chosen-all : (P : Point → Type 0) → All P (s .contents .points) → All P (choice s p .points)
   chosen-all P h = by-choice (λ c. All P (c .points)) (all-take P 1 (ordered s p) (ordered-all P h)) (apart-all P h)
 
   -- how many are chosen
-  taken-some : (k : ℕ) → 0 < k → 0 < length (s .points) → 0 < length (take k (ordered s p))
+  taken-some : (k : ℕ) → 0 < k → 0 < length (s .contents .points) → 0 < length (take k (ordered s p))
   taken-some k h n = omega (arith, length-take k (ordered s p), length-ordered s p)
 
   taken-most : (k : ℕ) → k ≤ 10 → length (take k (ordered s p)) ≤ 10
   taken-most k h = omega (arith, length-take k (ordered s p))
 
-  pub chosen-some : 0 < length (s .points) → 0 < length (choice s p .points)
+  pub chosen-some : 0 < length (s .contents .points) → 0 < length (choice s p .points)
   unfolding choiceApart
   chosen-some n =
       by-choice (λ c. 0 < length (c .points)) (taken-some 1 (omega arith) n)
@@ -129,10 +129,10 @@ module _ (s : State) (p : Location) where
       all-imp (λ a. at (p .x) (p .y) a ≡ false) (λ a. 0 < distance s p a)
       (λ a e. distance-pos (squared s p a) (squared-apart s p a e))
       (choice s p .points)
-      (chosen-all (λ a. at (p .x) (p .y) a ≡ false) (apart-points (p .x) (p .y) (s .points) (sym (coincident-is s p) ∙ h)))
+      (chosen-all (λ a. at (p .x) (p .y) a ≡ false) (apart-points (p .x) (p .y) (s .contents .points) (sym (coincident-is s p) ∙ h)))
 
   module _ (domain : (p .x < 4096) × (p .y < 4096)) where
-    pub point-most : (a : Point) → Inside a → distance s p a ≤ 16777216
+    pub point-most : (a : Point) → Inside a → distance s p a ≤ 2 ^ 24
     unfolding distance squared
     point-most a h =
         let g : gap (p .x) (a .x) ≤ 4095 = gap-most (p .x) (a .x) (domain .0) (h .0) in
@@ -141,31 +141,31 @@ module _ (s : State) (p : Location) where
         let v = mul-le-mul k k in
         distance-most (squared s p a) (omega arith)
 
-    module _ (some : 0 < length (s .points)) (inside : All Inside (s .points)) where
-      distanceAt-most : (i : ℕ) → distanceAt s p i ≤ 16777216
+    module _ (some : 0 < length (s .contents .points)) (inside : All Inside (s .contents .points)) where
+      distanceAt-most : (i : ℕ) → distanceAt s p i ≤ 2 ^ 24
       unfolding distanceAt
       distanceAt-most i =
           point-most (getD (ordered s p) i (point 0 0 (pos 0)))
           (all-at Inside (ordered s p) i (point 0 0 (pos 0)) (omega arith, omega arith) (ordered-all Inside inside))
 
-      initial-most : initialRadius s ≤ 16777216
+      initial-most : initialRadius s ≤ 2 ^ 24
       unfolding initialRadius area
       initial-most =
-          let x = max-most 4095 (xs s) (all-map (λ n. n ≤ 4095) (λ (a : Point). a .x) (s .points) (all-imp Inside (λ a. a .x ≤ 4095) (λ a h. omega (arith, h .0)) (s .points) inside)) in
-          let y = max-most 4095 (ys s) (all-map (λ n. n ≤ 4095) (λ (a : Point). a .y) (s .points) (all-imp Inside (λ a. a .y ≤ 4095) (λ a h. omega (arith, h .1)) (s .points) inside)) in
+          let x = max-most 4095 (xs s) (all-map (λ n. n ≤ 4095) (λ (a : Point). a .x) (s .contents .points) (all-imp Inside (λ a. a .x ≤ 4095) (λ a h. omega (arith, h .0)) (s .contents .points) inside)) in
+          let y = max-most 4095 (ys s) (all-map (λ n. n ≤ 4095) (λ (a : Point). a .y) (s .contents .points) (all-imp Inside (λ a. a .y ≤ 4095) (λ a h. omega (arith, h .1)) (s .contents .points) inside)) in
           let u : through max (xs s) - through min (xs s) ≤ 4095 = omega arith in
           let v : through max (ys s) - through min (ys s) ≤ 4095 = omega arith in
-          radius-most (area s) (length (s .points)) some (mul-le-mul u v)
+          radius-most (area s) (length (s .contents .points)) some (mul-le-mul u v)
 
-      few-most : (t : Bool) (n : ℕ) → n ≤ 16777216 → cond t 0 n ≤ 16777216
+      few-most : (t : Bool) (n : ℕ) → n ≤ 2 ^ 24 → cond t 0 n ≤ 2 ^ 24
       few-most true n h = omega arith
       few-most false n h = h
 
-      pub chosen-radius : choice s p .radius ≤ 16777216
+      pub chosen-radius : choice s p .radius ≤ 2 ^ 24
       unfolding choiceApart
       chosen-radius =
-          by-choice (λ c. c .radius ≤ 16777216) (omega arith)
-          (by-count (λ c. c .radius ≤ 16777216) (within s p)
+          by-choice (λ c. c .radius ≤ 2 ^ 24) (omega arith)
+          (by-count (λ c. c .radius ≤ 2 ^ 24) (within s p)
           (λ l. few-most (few s) (distanceAt s p 4) (distanceAt-most 4)) (λ k l. initial-most) (λ l. distanceAt-most 10))
 
 -- the first chosen point is at p exactly where some point is
@@ -179,6 +179,6 @@ module _ (s : State) (p : Location) where
   unfolding firstChosen coincident
   first-at h = ap (λ (c : Choice). distance s p (getD (c .points) 0 (point 0 0 (pos 0)))) (choice-coincident s p h) ∙ starts-zero (ordered s p) h
 
-  pub first-apart : 0 < length (s .points) → coincident s p ≡ false → 0 < distance s p (firstChosen s p)
+  pub first-apart : 0 < length (s .contents .points) → coincident s p ≡ false → 0 < distance s p (firstChosen s p)
   unfolding firstChosen
   first-apart n h = all-below (λ a. 0 < distance s p a) (choice s p .points) 0 (point 0 0 (pos 0)) (chosen-apart s p h) (chosen-some s p n)

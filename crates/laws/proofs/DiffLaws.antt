@@ -101,6 +101,17 @@ pub abs-diff : (a b : ℕ) → natAbs (diff a b) ≡ gap a b
 unfolding diff
 abs-diff a b = abs-minus a b
 
+abs-parts : (z : ℤ) → natAbs z ≡ up z + down z
+abs-parts (pos n) = omega arith
+abs-parts (negsuc n) = omega arith
+
+-- a sum is no larger than its parts together
+pub abs-sum : (z w : ℤ) → natAbs (z +ℤ w) ≤ natAbs z + natAbs w
+abs-sum z w =
+    let e : natAbs (z +ℤ w) ≡ gap (up z + up w) (down z + down w) =
+    ap natAbs (ap₂ _+ℤ_ (diff-of z) (diff-of w) ∙ diff-plus (up z) (down z) (up w) (down w)) ∙ abs-diff (up z + up w) (down z + down w) in
+    omega (arith, abs-parts z, abs-parts w)
+
 le-parts : (z w : ℤ) → (T (leZ z w)) ↔ (up z + down w ≤ up w + down z)
 le-parts (pos m) (pos n) = ((λ h. omega (arith, leb→le m n h)), λ h. le→leb m n (omega arith))
 le-parts (pos m) (negsuc n) = ((λ h. absurd h), λ h. absurd (omega arith))

@@ -8,7 +8,7 @@ use lib.IntN.{ℤ}
 use lib.ListN.{length}
 use borrow.Author.Tests.{lt-ltb}
 use Rattle.model.specs.Lists.{All}
-use Rattle.model.specs.Point.{Point, State, inRange, at, precedes}
+use Rattle.model.specs.Point.{Point, Contents, inRange, at, precedes}
 use Rattle.model.specs.Calls.{Add, Drop, taken, remove, refusal, accepted, after}
 use Rattle.model.specs.Invariant.{Invariant}
 use Rattle.laws.proofs.Tests.{cond-cases}
@@ -43,9 +43,9 @@ module _ (x y : ℕ) where
   removed-shorter (a ∷ l) h =
       cond-cases (λ r. length r < suc (length l)) (at x y a) (λ _. omega arith) (λ e. omega (arith, removed-shorter l (rw e at h)))
 
-  pub dropped-then-added : (z : ℤ) (s : State) → Invariant s → refusal (Drop x y) s ≡ 0 → inRange z ≡ true → refusal (Add x y z) (after (Drop x y) s) ≡ 0
+  pub dropped-then-added : (z : ℤ) (q : Contents) → Invariant (q .points) → refusal (Drop x y) q ≡ 0 → inRange z ≡ true → refusal (Add x y z) (after (Drop x y) q) ≡ 0
   unfolding refusal accepted
-  dropped-then-added z s i e r =
-      let d = drop-accepted x y s e in
-      let room : length (remove x y (s .points)) < 256 = omega (arith, removed-shorter (s .points) (d .1), i .count) in
-      rw (after-accepted (Drop x y) s e, d .0, r, removed-free (s .points) (i .ascending), lt-ltb (length (remove x y (s .points))) 256 room)
+  dropped-then-added z q i e r =
+      let d = drop-accepted x y q e in
+      let room : length (remove x y (q .points)) < 256 = omega (arith, removed-shorter (q .points) (d .1), i .count) in
+      rw (after-accepted (Drop x y) q e, d .0, r, removed-free (q .points) (i .ascending), lt-ltb (length (remove x y (q .points))) 256 room)

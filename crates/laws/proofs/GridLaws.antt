@@ -11,7 +11,7 @@ use lib.ListN.{length, length-append}
 use borrow.Author.Tests.{ltb-false, leb-true, eqb-false, lt-ltb, le-ltb, ne-eqb}
 use Rattle.model.specs.Point.{State}
 use Rattle.model.specs.Answer.{answer}
-use Rattle.model.specs.Calls.{Lookup, refusal, nonEmpty, enough}
+use Rattle.model.specs.Refusals.{lookupRefusal, nonEmpty, enough}
 use Rattle.model.specs.Grid.{Grid, axis, proper, cellCount, gridCheck, cellLocation, row, rowsOf, cells}
 use Rattle.model.specs.GridFile.{cellBytes, cellsBytes, gridTrailer, fileOfCells, gridFile, gridFileLength, gridFileRefusal}
 use Rattle.laws.proofs.ListLaws.{length-tabulate, length-flatMap}
@@ -38,21 +38,21 @@ proper-axes g h =
     let a = and-eq-true-iff (axis (g .x0) (g .stepX) (g .columns)) (axis (g .y0) (g .stepY) (g .rows)) .0 h in
     (axis-keeps (g .x0) (g .stepX) (g .columns) (a .0), axis-keeps (g .y0) (g .stepY) (g .rows) (a .1))
 
-grid-accepted : (g : Grid) (s : State) (n : ℕ) → gridCheck g s n ≡ 0 → (proper g ≡ true) × (0 < length (s .points)) × (n ≡ 0)
+grid-accepted : (g : Grid) (s : State) (n : ℕ) → gridCheck g s n ≡ 0 → (proper g ≡ true) × (0 < length (s .contents .points)) × (n ≡ 0)
 grid-accepted g s n h =
     let rules = cond-sound (proper g) 6 (nonEmpty s n) h in
-    let some = cond-zero (eqb (length (s .points)) 0) 5 n (rules .1) in
-    (rules .0, omega (arith, eqb-false (length (s .points)) 0 (some .0)), some .1)
+    let some = cond-zero (eqb (length (s .contents .points)) 0) 5 n (rules .1) in
+    (rules .0, omega (arith, eqb-false (length (s .contents .points)) 0 (some .0)), some .1)
 
 -- a lookup where a cell is, is accepted
-pub cell-accepted : (s : State) (g : Grid) (c r : ℕ) → proper g ≡ true → 0 < length (s .points) → c < g .columns → r < g .rows
-    → refusal (Lookup (cellLocation g c r .x) (cellLocation g c r .y)) s ≡ 0
-unfolding refusal
+pub cell-accepted : (s : State) (g : Grid) (c r : ℕ) → proper g ≡ true → 0 < length (s .contents .points) → c < g .columns → r < g .rows
+    → lookupRefusal (cellLocation g c r .x) (cellLocation g c r .y) s ≡ 0
+unfolding lookupRefusal
 cell-accepted s g c r h some hc hr =
     let a = proper-axes g h in
     let x = axis-inside (g .x0) (g .stepX) (g .columns) c (a .0) hc in
     let y = axis-inside (g .y0) (g .stepY) (g .rows) r (a .1) hr in
-    rw (lt-ltb (g .x0 + c * g .stepX) 4096 x, lt-ltb (g .y0 + r * g .stepY) 4096 y, ne-eqb (length (s .points)) 0 (omega arith))
+    rw (lt-ltb (g .x0 + c * g .stepX) 4096 x, lt-ltb (g .y0 + r * g .stepY) 4096 y, ne-eqb (length (s .contents .points)) 0 (omega arith))
 
 module _ (s : State) (g : Grid) where
   pub length-row : (r : ℕ) → length (row s g r) ≡ g .columns
@@ -89,7 +89,7 @@ row-within g r h =
     let m : g .columns * (r + 1) ≤ g .columns * g .rows = mul-le-mul-left (g .columns) (omega arith) in
     omega (arith, m)
 
-pub grid-fits : (g : Grid) (s : State) (lent needed : ℕ) → gridCheck g s (enough lent needed) ≡ 0 → (proper g ≡ true) × (0 < length (s .points)) × (needed ≤ lent)
+pub grid-fits : (g : Grid) (s : State) (lent needed : ℕ) → gridCheck g s (enough lent needed) ≡ 0 → (proper g ≡ true) × (0 < length (s .contents .points)) × (needed ≤ lent)
 grid-fits g s lent needed h =
     let a = grid-accepted g s (enough lent needed) h in
     (a .0, a .1, ltb-false lent needed (cond-zero (ltb lent needed) 7 0 (a .2) .0))

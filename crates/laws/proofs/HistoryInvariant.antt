@@ -9,9 +9,9 @@ use lib.IntN.{ℤ}
 use lib.ListN.{length}
 use borrow.Author.Tests.{eqb-true}
 use Rattle.model.specs.Lists.{All}
-use Rattle.model.specs.Point.{Point, State, point, at, precedes}
+use Rattle.model.specs.Point.{Point, Contents, point, at, precedes}
 use Rattle.model.specs.Order.{insert}
-use Rattle.model.specs.Calls.{Call, Add, Change, Drop, Clear, Load, Lookup, LookupNeighbours, fresh, taken, remove, revalue, refusal, accepted, after, afterAll, present}
+use Rattle.model.specs.Calls.{Call, Add, Change, Drop, Clear, Load, Ask, fresh, taken, remove, revalue, refusal, accepted, after, afterAll, present}
 use Rattle.model.specs.Invariant.{Sound, Invariant}
 use Rattle.laws.proofs.Tests.{cond-cases}
 use Rattle.laws.proofs.ListLaws.{all-imp}
@@ -59,46 +59,45 @@ module _ (x y : ℕ) where
     length-revalue [] = refl
     length-revalue (a ∷ l) = cond-cases (λ r. length r ≡ suc (length l)) (at x y a) (λ _. refl) (λ _. ap suc (length-revalue l))
 
-fresh-invariant : Invariant fresh
+fresh-invariant : Invariant (fresh .points)
 fresh-invariant = record { count = omega arith; ascending = tt; sound = tt }
 
-accepted-keeps : (c : Call) (s : State) → refusal c s ≡ 0 → Invariant s → Invariant (accepted c s)
+accepted-keeps : (c : Call) (q : Contents) → refusal c q ≡ 0 → Invariant (q .points) → Invariant (accepted c q .points)
 unfolding refusal accepted
-accepted-keeps (Add x y z) s e h =
-    let t = add-accepted x y z s e in
+accepted-keeps (Add x y z) q e h =
+    let t = add-accepted x y z q e in
     record {
-      count = omega (arith, length-insert precedes (point x y z) (s .points), t .3);
-      ascending = ascending-insert (point x y z) (s .points) (t .2) (h .ascending);
-      sound = all-insert precedes Sound (point x y z) (s .points) (record { location = t .0; value = t .1 }) (h .sound);
+      count = omega (arith, length-insert precedes (point x y z) (q .points), t .3);
+      ascending = ascending-insert (point x y z) (q .points) (t .2) (h .ascending);
+      sound = all-insert precedes Sound (point x y z) (q .points) (record { location = t .0; value = t .1 }) (h .sound);
     }
-accepted-keeps (Change x y z) s e h =
-    let t = change-accepted x y z s e in
+accepted-keeps (Change x y z) q e h =
+    let t = change-accepted x y z q e in
     record {
-      count = omega (arith, length-revalue x y z (s .points), h .count);
-      ascending = ascending-revalue x y z (s .points) (h .ascending);
-      sound = all-revalue x y z Sound (λ a _ _. record { location = t .0; value = t .1 }) (s .points) (h .sound);
+      count = omega (arith, length-revalue x y z (q .points), h .count);
+      ascending = ascending-revalue x y z (q .points) (h .ascending);
+      sound = all-revalue x y z Sound (λ a _ _. record { location = t .0; value = t .1 }) (q .points) (h .sound);
     }
-accepted-keeps (Drop x y) s e h =
+accepted-keeps (Drop x y) q e h =
     record {
-      count = omega (arith, length-remove x y (s .points), h .count);
-      ascending = ascending-remove x y (s .points) (h .ascending);
-      sound = all-remove x y Sound (s .points) (h .sound);
+      count = omega (arith, length-remove x y (q .points), h .count);
+      ascending = ascending-remove x y (q .points) (h .ascending);
+      sound = all-remove x y Sound (q .points) (h .sound);
     }
-accepted-keeps Clear s e h = fresh-invariant
-accepted-keeps (Load f) s e h = accepted-invariant f e
-accepted-keeps (Lookup x y) s e h = h
-accepted-keeps (LookupNeighbours x y n) s e h = h
+accepted-keeps Clear q e h = fresh-invariant
+accepted-keeps (Load f) q e h = accepted-invariant f e
+accepted-keeps Ask q e h = h
 
-pub after-invariant : (c : Call) (s : State) → Invariant s → Invariant (after c s)
+pub after-invariant : (c : Call) (q : Contents) → Invariant (q .points) → Invariant (after c q .points)
 unfolding after
-after-invariant c s h =
-    cond-cases Invariant (eqb (refusal c s) 0) (λ e. accepted-keeps c s (eqb-true (refusal c s) 0 e) h) (λ _. h)
+after-invariant c q h =
+    cond-cases (λ (r : Contents). Invariant (r .points)) (eqb (refusal c q) 0) (λ e. accepted-keeps c q (eqb-true (refusal c q) 0 e) h) (λ _. h)
 
-all-invariant : (cs : List Call) (s : State) → Invariant s → Invariant (afterAll cs s)
+all-invariant : (cs : List Call) (q : Contents) → Invariant (q .points) → Invariant (afterAll cs q .points)
 unfolding afterAll
-all-invariant [] s h = h
-all-invariant (c ∷ cs) s h = all-invariant cs (after c s) (after-invariant c s h)
+all-invariant [] q h = h
+all-invariant (c ∷ cs) q h = all-invariant cs (after c q) (after-invariant c q h)
 
-pub history-invariant : (cs : List Call) → Invariant (present cs)
+pub history-invariant : (cs : List Call) → Invariant (present cs .points)
 unfolding present
 history-invariant cs = all-invariant cs fresh fresh-invariant

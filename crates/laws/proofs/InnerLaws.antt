@@ -1,63 +1,50 @@
--- The inner product of two offsets, and the excess |D D' - 65,536 g|, from unsigned sums.
-use mathlib.Core.Path.{_≡_, ap, ap₂, _∙_}
-use Prim.Native.Nat.{ℕ, _+_, _*_, _≤_, _<_}
-use native.Mathlib.Nat.{mul-le-mul}
+-- How large the inner product g of two offsets is, and |D D' - 65,536 g|: offsets are at most 2¹⁵ and distances at most 2²⁴.
+use mathlib.Core.Path.{_≡_}
+use Prim.Native.Nat.{ℕ, _*_, _^_, _≤_, _<_}
+use native.Mathlib.Nat.{mul-le-mul, le-of-lt}
 use native.Mathlib.Omega.{arith}
-use lib.IntN.{ℤ, pos, natAbs, _+ℤ_, _-ℤ_, _*ℤ_}
+use lib.IntN.{ℤ, pos, negℤ, natAbs, _+ℤ_, _-ℤ_, _*ℤ_}
 use Rattle.model.specs.Point.{Location, Point, State}
-use Rattle.model.specs.Distance.{gap, distance, inner}
+use Rattle.model.specs.Distance.{distance, offsetX, offsetY, inner}
 use Rattle.model.specs.Weight.{excessOf}
-use Rattle.laws.proofs.DiffLaws.{diff, diff-pos, diff-plus, diff-minus, diff-times, abs-diff}
+use Rattle.laws.proofs.IntLaws.{abs-minus, abs-neg, abs-times}
+use Rattle.laws.proofs.DiffLaws.{abs-sum}
 
--- g is the first of these less the second
-abbrev pub innerPlus : Location → Point → Point → ℕ
-innerPlus p a b = a .x * b .x + p .x * p .x + (a .y * b .y + p .y * p .y)
+pub product-size : (z w : ℤ) → natAbs z ≤ 2 ^ 15 → natAbs w ≤ 2 ^ 15 → natAbs (z *ℤ w) ≤ 2 ^ 30
+product-size z w h k = omega (arith, abs-times z w, mul-le-mul h k)
 
-abbrev pub innerMinus : Location → Point → Point → ℕ
-innerMinus p a b = a .x * p .x + p .x * b .x + (a .y * p .y + p .y * b .y)
+-- two offsets, (t, u) and (v, w)
+module _ (t u v w : ℤ) (ht : natAbs t ≤ 2 ^ 15) (hu : natAbs u ≤ 2 ^ 15) (hv : natAbs v ≤ 2 ^ 15) (hw : natAbs w ≤ 2 ^ 15) where
+  abbrev g : ℤ
+  g = (t *ℤ v) +ℤ (u *ℤ w)
 
-pub inner-diff : (s : State) (p : Location) (a b : Point) → inner s p a b ≡ diff (innerPlus p a b) (innerMinus p a b)
-unfolding inner diff
-inner-diff s p a b =
-    ap₂ _+ℤ_ (diff-times (a .x) (p .x) (b .x) (p .x)) (diff-times (a .y) (p .y) (b .y) (p .y))
-    ∙ diff-plus (a .x * b .x + p .x * p .x) (a .x * p .x + p .x * b .x) (a .y * b .y + p .y * p .y) (a .y * p .y + p .y * b .y)
+  pub inner-size : natAbs g ≤ 2 ^ 31
+  inner-size = omega (arith, abs-sum (t *ℤ v) (u *ℤ w), product-size t v ht hv, product-size u w hu hw)
 
--- |m - 65,536 (u - v)|
-pub excess-gap : (m u v : ℕ) → natAbs (pos m -ℤ (pos 65536 *ℤ diff u v)) ≡ gap (m + 65536 * v) (65536 * u)
-excess-gap m u v =
-    ap natAbs
-    (ap₂ _-ℤ_ (diff-pos m) (ap (λ (z : ℤ). z *ℤ diff u v) (diff-pos 65536) ∙ diff-times 65536 0 u v)
-    ∙ diff-minus m 0 (65536 * u + 0 * v) (65536 * v + 0 * u))
-    ∙ abs-diff (m + (65536 * v + 0 * u)) (0 + (65536 * u + 0 * v))
-    ∙ omega arith
+  pub scaled-size : natAbs (pos 65536 *ℤ g) ≤ 2 ^ 47
+  scaled-size = omega (arith, abs-times (pos 65536) g, inner-size)
 
-pub excess-is : (s : State) (p : Location) (a b : Point)
-    → excessOf s p a b ≡ gap (distance s p a * distance s p b + 65536 * innerMinus p a b) (65536 * innerPlus p a b)
-unfolding excessOf
-excess-is s p a b =
-    ap (λ (g : ℤ). natAbs (pos (distance s p a * distance s p b) -ℤ (pos 65536 *ℤ g))) (inner-diff s p a b)
-    ∙ excess-gap (distance s p a * distance s p b) (innerPlus p a b) (innerMinus p a b)
+  -- whole and at most 2⁵³, so that a float holds it exactly
+  pub excess-size : (d e : ℕ) → d ≤ 2 ^ 24 → e ≤ 2 ^ 24 → natAbs (pos (d * e) -ℤ (pos 65536 *ℤ g)) ≤ 2 ^ 53
+  excess-size d e h k = omega (arith, abs-sum (pos (d * e)) (negℤ (pos 65536 *ℤ g)), abs-neg (pos 65536 *ℤ g), scaled-size, mul-le-mul h k)
 
 abbrev InDomain : ℕ → ℕ → Type 0
 InDomain x y = (x < 4096) × (y < 4096)
 
-product : (m n : ℕ) → m < 4096 → n < 4096 → m * n ≤ 16777216
-product m n h k =
-    let a : m ≤ 4096 = omega arith in
-    let b : n ≤ 4096 = omega arith in
-    mul-le-mul a b
+difference-size : (m n : ℕ) → m < 4096 → n < 4096 → natAbs (pos m -ℤ pos n) < 2 ^ 15
+difference-size m n h k = omega (arith, abs-minus m n)
 
-four : (m n k l : ℕ) → InDomain m n → InDomain k l → m * n + k * l ≤ 33554432
-four m n k l h g = omega (arith, product m n (h .0) (h .1), product k l (g .0) (g .1))
+module _ (s : State) (p : Location) (P : InDomain (p .x) (p .y)) where
+  pub offset-x-most : (a : Point) → InDomain (a .x) (a .y) → natAbs (offsetX s p a) < 2 ^ 15
+  unfolding offsetX
+  offset-x-most a A = difference-size (a .x) (p .x) (A .0) (P .0)
 
--- whole and below 2⁵³, so that a float holds it exactly
-pub excess-most : (s : State) (p : Location) (a b : Point) → InDomain (p .x) (p .y) → InDomain (a .x) (a .y) → InDomain (b .x) (b .y)
-    → distance s p a ≤ 16777216 → distance s p b ≤ 16777216 → excessOf s p a b ≤ 9007199254740992
-excess-most s p a b P A B c d =
-    let e = excess-is s p a b in
-    let m : distance s p a * distance s p b ≤ 16777216 * 16777216 = mul-le-mul c d in
-    let ux = four (a .x) (b .x) (p .x) (p .x) (A .0, B .0) (P .0, P .0) in
-    let uy = four (a .y) (b .y) (p .y) (p .y) (A .1, B .1) (P .1, P .1) in
-    let vx = four (a .x) (p .x) (p .x) (b .x) (A .0, P .0) (P .0, B .0) in
-    let vy = four (a .y) (p .y) (p .y) (b .y) (A .1, P .1) (P .1, B .1) in
-    omega arith
+  pub offset-y-most : (a : Point) → InDomain (a .x) (a .y) → natAbs (offsetY s p a) < 2 ^ 15
+  unfolding offsetY
+  offset-y-most a A = difference-size (a .y) (p .y) (A .1) (P .1)
+
+  pub excess-most : (a b : Point) → InDomain (a .x) (a .y) → InDomain (b .x) (b .y) → distance s p a ≤ 2 ^ 24 → distance s p b ≤ 2 ^ 24 → excessOf s p a b ≤ 2 ^ 53
+  unfolding excessOf inner
+  excess-most a b A B c d =
+      excess-size (offsetX s p a) (offsetY s p a) (offsetX s p b) (offsetY s p b) (le-of-lt (offset-x-most a A)) (le-of-lt (offset-y-most a A)) (le-of-lt (offset-x-most b B)) (le-of-lt (offset-y-most b B))
+      (distance s p a) (distance s p b) c d

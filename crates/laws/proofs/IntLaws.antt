@@ -1,11 +1,12 @@
--- Signed numbers times natural ones, and what the size of a difference tells.
+-- Signed numbers times natural ones, and the size of a difference and of a product.
 use mathlib.Core.Path.{_≡_, refl}
-use Prim.Native.Nat.{ℕ, zero, suc, _+_, _-_, _*_}
+use Prim.Native.Nat.{ℕ, zero, suc, _+_, _-_, _*_, _≤_}
 use native.Mathlib.Nat.{mul-assoc, mul-one, zero-mul}
 use native.Mathlib.Omega.{arith}
 use mathlib.Core.Bool.{Bool, true, false, cond}
 use lib.Dec.{ltb}
 use lib.IntN.{ℤ, pos, negsuc, negℤ, natAbs, _-ℤ_, _*ℤ_}
+use lib.Signed.{mag}
 use borrow.Author.Tests.{ltb-true, ltb-false}
 use Rattle.model.specs.Distance.{gap}
 
@@ -38,3 +39,13 @@ abs-plus (suc m) (suc n) = omega arith
 pub times-one : (z : ℤ) → z *ℤ pos 1 ≡ z
 times-one (pos k) = rw mul-one
 times-one (negsuc k) = rw mul-one
+
+pub mag-abs : (z : ℤ) → mag z ≤ natAbs z
+mag-abs (pos n) = omega arith
+mag-abs (negsuc n) = omega arith
+
+pub abs-times : (z w : ℤ) → natAbs (z *ℤ w) ≡ natAbs z * natAbs w
+abs-times (pos m) (pos n) = refl
+abs-times (pos m) (negsuc n) = abs-neg (pos (m * suc n))
+abs-times (negsuc m) (pos n) = abs-neg (pos (suc m * n))
+abs-times (negsuc m) (negsuc n) = refl

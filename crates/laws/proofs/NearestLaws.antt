@@ -25,22 +25,22 @@ module _ {A : Type 0} (f : A → Bool) where
       go false h = omega arith
 
 module _ (s : State) (p : Location) where
-  pub length-ordered : length (ordered s p) ≡ length (s .points)
+  pub length-ordered : length (ordered s p) ≡ length (s .contents .points)
   unfolding ordered
-  length-ordered = length-sort (nearer s p) (s .points)
+  length-ordered = length-sort (nearer s p) (s .contents .points)
 
-  pub within-le : within s p ≤ length (s .points)
+  pub within-le : within s p ≤ length (s .contents .points)
   unfolding within
   within-le = omega (arith, count-le (λ (a : Point). leb (distance s p a) (initialRadius s)) (ordered s p), length-ordered)
 
   -- rules 3 to 5, by the count within R0
-  pub rule-few : within s p ≤ 4 → length (s .points) ≤ 4 → choiceApart s p ≡ record { points = take 4 (ordered s p); radius = 0 }
+  pub rule-few : within s p ≤ 4 → length (s .contents .points) ≤ 4 → choiceApart s p ≡ record { points = take 4 (ordered s p); radius = 0 }
   unfolding choiceApart byCount
-  rule-few h g = rw (le-leb (within s p) 4 h, le-leb (length (s .points)) 4 g)
+  rule-few h g = rw (le-leb (within s p) 4 h, le-leb (length (s .contents .points)) 4 g)
 
-  pub rule-four : within s p ≤ 4 → 4 < length (s .points) → choiceApart s p ≡ record { points = take 4 (ordered s p); radius = distanceAt s p 4 }
+  pub rule-four : within s p ≤ 4 → 4 < length (s .contents .points) → choiceApart s p ≡ record { points = take 4 (ordered s p); radius = distanceAt s p 4 }
   unfolding choiceApart byCount
-  rule-four h g = rw (le-leb (within s p) 4 h, lt-leb (length (s .points)) 4 g)
+  rule-four h g = rw (le-leb (within s p) 4 h, lt-leb (length (s .contents .points)) 4 g)
 
   pub rule-some : 4 < within s p → within s p ≤ 10 → choiceApart s p ≡ record { points = take (within s p) (ordered s p); radius = initialRadius s }
   unfolding choiceApart byCount

@@ -8,7 +8,7 @@ use mathlib.Core.List.{List, [], _∷_, _++_, append-assoc}
 use lib.ListN.{length, take, drop, getD, length-append, length-drop, take-append-drop}
 use lib.Seq.{drop-append-seam, take-append-seam, drop-cons, getD-drop, drop-drop, length-take-le, drop-at}
 use Rattle.model.specs.Lists.{Bytes}
-use Rattle.model.specs.Point.{Point, inDomain, inRange, surveyOf}
+use Rattle.model.specs.Point.{Point, inDomain, inRange}
 use Rattle.model.specs.Bytes.{wordAt, longAt, bytes2, bytes4, total}
 use Rattle.model.specs.SurveyFile.{magic, trailerStart, countIn, backIn, sumIn, magicIn, recordStart, recordsIn, pointsOf, filePoints, fault, fileRefusal, trailer, records, fileOf}
 use Rattle.model.specs.Invariant.{Sound, Invariant}
@@ -88,7 +88,7 @@ module _ (f pre r : List ℕ) (n : ℕ) (e : f ≡ (pre ++ r) ++ trailer n r) (f
       } in
       record { trailer = trailer; faultless = faultless }
 
-module _ (pre : List ℕ) (l : List Point) (h : Invariant (surveyOf l)) where
+module _ (pre : List ℕ) (l : List Point) (h : Invariant l) where
   file-parts : pre ++ fileOf l ≡ (pre ++ records l) ++ trailer (length l) (records l)
   unfolding fileOf
   file-parts = sym (append-assoc pre (records l) (trailer (length l) (records l)))
@@ -161,7 +161,7 @@ module _ (f : List ℕ) (b : Bytes f) (a : Accepted f) where
 pub accepted-ends : (f : List ℕ) → Bytes f → fileRefusal f ≡ 0 → drop (recordStart f) f ≡ fileOf (filePoints f)
 accepted-ends f b h = ends-again f b (accepted-facts f h)
 
-pub accepted-invariant : (f : List ℕ) → fileRefusal f ≡ 0 → Invariant (surveyOf (filePoints f))
+pub accepted-invariant : (f : List ℕ) → fileRefusal f ≡ 0 → Invariant (filePoints f)
 unfolding filePoints
 accepted-invariant f h =
     let a = accepted-facts f h in

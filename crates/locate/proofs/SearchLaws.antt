@@ -6,8 +6,8 @@ use mathlib.Core.List.{List}
 use lib.IntN.{ℤ, pos}
 use lib.ListN.{length, getD}
 use Rattle.model.specs.Point.{Point, point}
-use Rattle.columns.specs.Columns.{wrapped, pointsIn}
-use Rattle.columns.proofs.ReadLaws.{length-points, points-at}
+use Rattle.point_arrays.specs.PointArrays.{wrapped, pointsIn}
+use Rattle.point_arrays.proofs.ReadLaws.{length-points, points-at}
 use Rattle.locate.specs.Leading.{leading}
 use Rattle.locate.proofs.LeadingLaws.{Passed, leading-start, leading-more, leading-stop, leading-end}
 

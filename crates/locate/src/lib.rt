@@ -4,7 +4,7 @@ ghost use mathlib.Core.Bool.{not};
 ghost use mathlib.Core.List.{List};
 ghost use lib.IntN.{ℤ, pos};
 ghost use Rattle.model.specs.Point.{point, at, precedes};
-ghost use Rattle.columns.specs.Columns.{pointsIn};
+ghost use Rattle.point_arrays.specs.PointArrays.{pointsIn};
 ghost use Rattle.locate.specs.Leading.{leading, elsewhere, notAfter, passes};
 
 // Whether the location (a, b) is (x, y).
@@ -51,11 +51,11 @@ fn search<'a>(
 ) -> usize
     ensures { λ r. ⌜ ((zs : List ℤ) → r ≡ leading (passes behind x y) (pointsIn (now (xs .entry)) (now (ys .entry)) zs n)) ⌝ }
 {
-    let m = columns::clamped(n);
+    let m = point_arrays::clamped(n);
     let mut i = 0usize;
     while i < m {
-        let a = columns::coordinate(xs[i]);
-        let b = columns::coordinate(ys[i]);
+        let a = point_arrays::coordinate(xs[i]);
+        let b = point_arrays::coordinate(ys[i]);
         if stops(behind, x, y, a, b) {
             return i;
         }

@@ -1,4 +1,4 @@
 -- Facts that the proofs of this crate share.
 pub mod Turns
 pub mod Looked
-pub mod Outcomes
+pub mod Answering

@@ -12,10 +12,10 @@ use Rattle.model.specs.Mean.{Right}
 use Rattle.model.specs.Answer.{answer}
 use Rattle.survey.specs.declared.Answer.{Answer}
 use Rattle.survey.specs.declared.Answer.the-variants.{Found}
-use Rattle.survey.specs.Answers.{found, lookedUp, Rounded}
+use Rattle.survey.specs.LookedUp.{found, lookedUp, Rounded}
 use Rattle.survey.proofs.Looking.{looked-up}
 use Rattle.many_lookups.specs.Locations.{locationsIn}
-use Rattle.many_lookups.specs.Outcome.{firstRefusal, answerFields, answerBytes}
+use Rattle.many_lookups.specs.AnswersInto.{firstRefusal, answerFields, answerBytes}
 use Rattle.many_lookups.proofs.Turns.{nowhere, location-at, all-from}
 
 -- q is what is found at index i, and the lookups after it are accepted

@@ -6,20 +6,16 @@ use native.Mathlib.Omega.{arith}
 use mathlib.Core.Bool.{Bool, true, false, cond}
 use mathlib.Core.List.{List, [], _∷_}
 use lib.Dec.{eqb}
-use lib.IntN.{ℤ}
 use lib.ListN.{length, take, drop, getD, drop-of-length-le}
 use lib.Seq.{drop-cons, take-suc}
 use borrow.Author.Tests.{eqb-true, eq-eqb, ne-eqb}
 use Rattle.model.specs.Lists.{All}
 use Rattle.model.specs.Bytes.{wordAt}
 use Rattle.model.specs.Point.{Location, State, location}
-use Rattle.model.specs.Calls.{Lookup, refusal}
+use Rattle.model.specs.Refusals.{lookupRefusal, orElse}
 use Rattle.laws.proofs.ListLaws.{length-tabulate, getD-tabulate, all-append}
-use Rattle.columns.specs.Columns.{surveyIn}
-use Rattle.columns.proofs.ReadLaws.{length-points}
-use Rattle.many_lookups.specs.Refusals.{orElse}
 use Rattle.many_lookups.specs.Locations.{locationAt, locationsIn}
-use Rattle.many_lookups.specs.Outcome.{firstRefusal}
+use Rattle.many_lookups.specs.AnswersInto.{firstRefusal}
 
 abbrev pub nowhere : Location
 nowhere = location 0 0
@@ -35,15 +31,6 @@ or-else-zero a b h = by-test (eqb a 0) refl h
 pub all-more : (P : Location → Type 0) (l : List Location) (i : ℕ) → i < length l → All P (take i l) → P (getD l i nowhere) → All P (take (i + 1) l)
 all-more P l i h p q = rw (add-one i, take-suc l i nowhere h) (all-append P (take i l) (getD l i nowhere ∷ []) p (q, tt))
 
-some-count : (n : ℕ) → eqb (min n 256) 0 ≡ eqb n 0
-some-count zero = refl
-some-count (suc n) = ne-eqb (min (suc n) 256) 0 (λ h. absurd (omega arith)) ∙ sym (ne-eqb (suc n) 0 (λ h. absurd (omega arith)))
-
--- the refusal of a lookup goes by the number of points alone
-by-count : (x y n k : ℕ) → ((xs ys : List ℕ) (zs : List ℤ) → k ≡ refusal (Lookup x y) (surveyIn xs ys zs n)) → (s : State) → length (s .points) ≡ n → k ≡ refusal (Lookup x y) s
-unfolding refusal
-by-count x y n k h s e = rw (e) (rw (length-points, some-count n) at (h [] [] []))
-
 module _ (b : List ℕ) where
   pub length-locations : length (locationsIn b) ≡ length b / 4
   unfolding locationsIn
@@ -56,16 +43,15 @@ module _ (b : List ℕ) where
 
     -- the lookup at index i, and those after it
     module _ (s : State) (x y : ℕ) (ex : x ≡ wordAt b (4 * i)) (ey : y ≡ wordAt b (4 * i + 2)) where
-      first-from : firstRefusal s (drop i (locationsIn b)) ≡ orElse (refusal (Lookup x y) s) (firstRefusal s (drop (i + 1) (locationsIn b)))
+      first-from : firstRefusal s (drop i (locationsIn b)) ≡ orElse (lookupRefusal x y s) (firstRefusal s (drop (i + 1) (locationsIn b)))
       unfolding firstRefusal
       first-from = rw (ex, ey, add-one i, drop-cons (locationsIn b) i nowhere (omega (arith, length-locations)), location-at)
 
-      pub all-from : firstRefusal s (drop i (locationsIn b)) ≡ 0 → (refusal (Lookup x y) s ≡ 0) × (firstRefusal s (drop (i + 1) (locationsIn b)) ≡ 0)
-      all-from e = or-else-zero (refusal (Lookup x y) s) (firstRefusal s (drop (i + 1) (locationsIn b))) (sym first-from ∙ e)
+      pub all-from : firstRefusal s (drop i (locationsIn b)) ≡ 0 → (lookupRefusal x y s ≡ 0) × (firstRefusal s (drop (i + 1) (locationsIn b)) ≡ 0)
+      all-from e = or-else-zero (lookupRefusal x y s) (firstRefusal s (drop (i + 1) (locationsIn b))) (sym first-from ∙ e)
 
-      pub counted-from : (n k : ℕ) → ((xs ys : List ℕ) (zs : List ℤ) → k ≡ refusal (Lookup x y) (surveyIn xs ys zs n)) → length (s .points) ≡ n
-          → firstRefusal s (drop i (locationsIn b)) ≡ orElse k (firstRefusal s (drop (i + 1) (locationsIn b)))
-      counted-from n k h e = rw (by-count x y n k h s e) first-from
+      pub counted-from : (k : ℕ) → k ≡ lookupRefusal x y s → firstRefusal s (drop i (locationsIn b)) ≡ orElse k (firstRefusal s (drop (i + 1) (locationsIn b)))
+      counted-from k e = rw e first-from
 
   pub none-left : (i : ℕ) (s : State) → length b / 4 ≤ i → firstRefusal s (drop i (locationsIn b)) ≡ 0
   unfolding firstRefusal

@@ -1,4 +1,3 @@
 -- The definitions that the contracts of this crate cite.
-pub mod Refusals
 pub mod Locations
-pub mod Outcome
+pub mod AnswersInto

@@ -1,13 +1,13 @@
 // Lookups at a list of locations, from bytes to bytes.
 ghost use mathlib.Core.Path.{_≡_};
-ghost use Prim.Native.Nat.{_+_, _*_, _/_, _<_, _≤_};
+ghost use Prim.Native.Nat.{_+_, _*_, _/_, _<_, _≤_, min};
 ghost use lib.ListN.{length};
 ghost use Rattle.model.specs.Lists.{laid};
 ghost use Rattle.model.specs.Bytes.{wordAt};
 ghost use Rattle.model.specs.Point.{State};
-ghost use Rattle.survey.specs.Held.{stateOf};
+ghost use Rattle.survey.specs.StateOf.{stateOf};
 ghost use Rattle.many_lookups.specs.Locations.{locationsIn};
-ghost use Rattle.many_lookups.specs.Outcome.{firstRefusal, answerFields, answersBytes, AllRight, AnswersInto};
+ghost use Rattle.many_lookups.specs.AnswersInto.{firstRefusal, answerFields, answersBytes, AllRight, AnswersInto};
 use survey::Answer;
 use survey::Survey;
 
@@ -21,7 +21,7 @@ fn coordinate(locations: &[u8], i: usize) -> u32
 
 // Why the first lookup that is refused is refused, in a survey of n points; 0 where none is. It is known before a byte is written.
 fn refusal(n: usize, locations: &[u8]) -> u8
-    ensures { λ r. ⌜ ((s : State) → length (s .points) ≡ n → r ≡ firstRefusal s (locationsIn (now (locations .entry)))) ⌝ }
+    ensures { λ r. ⌜ ((s : State) → length (s .contents .points) ≡ min n 256 → r ≡ firstRefusal s (locationsIn (now (locations .entry)))) ⌝ }
 {
     let count = locations.len() / 4;
     let mut i = 0usize;

@@ -3,20 +3,17 @@
 use Prim.Native.Nat.{ℕ, _+_, _/_}
 use mathlib.Core.Bool.{cond}
 use mathlib.Core.List.{List, map}
-use lib.Dec.{eqb}
 use lib.IntN.{ℤ, pos, _+ℤ_, _*ℤ_}
 use lib.ListN.{length}
 use lib.Ieee.{Float}
 use lib.Ieee.Positive.{num, den}
-use Rattle.model.specs.Lists.{laid}
-use Rattle.model.specs.Point.{Location, Point, State, location}
+use Rattle.model.specs.Point.{Location, Point, State}
 use Rattle.model.specs.Distance.{distance}
 use Rattle.model.specs.Choice.{choice, coincident, few}
 use Rattle.model.specs.Influence.{influenceAt, kind}
 use Rattle.model.specs.Weight.{neighbourhood}
 use Rattle.model.specs.Mean.{firstChosen, leastChosen}
 use Rattle.model.specs.Computed.{meanF}
-use Rattle.model.specs.Calls.{LookupNeighbours, refusal}
 
 -- the whole number nearest to half of a float that is not negative: its whole part, plus 1, halved
 unfoldable pub nearestHalf : Float → ℕ
@@ -49,8 +46,3 @@ neighbourOf s p r a = record { x = a .x; y = a .y; z = a .z; distance = distance
 unfoldable pub neighbours : State → Location → List Neighbour
 unfolding neighbourOf choice
 neighbours s p = map (neighbourOf s p (choice s p .radius)) (choice s p .points)
-
--- what a lent list holds after a lookup with neighbours, f being how it holds a record: the records at its front, or, refused, what it held
-unfoldable pub neighboursInto : {A : Type 0} → (Neighbour → A) → State → ℕ → ℕ → List A → List A
-unfolding refusal neighbours
-neighboursInto f s x y l = cond (eqb (refusal (LookupNeighbours x y (length l)) s) 0) (laid (map f (neighbours s (location x y))) l) l

@@ -19,7 +19,7 @@ nearer s p a b = lexical (squared s p a) (squared s p b) (precedes a b)
 -- all points in that order
 unfoldable pub ordered : State → Location → List Point
 unfolding nearer sort
-ordered s p = sort (nearer s p) (s .points)
+ordered s p = sort (nearer s p) (s .contents .points)
 
 -- n: how many points have D ≤ R0
 unfoldable pub within : State → Location → ℕ
@@ -28,7 +28,7 @@ within s p = count (λ (a : Point). leb (distance s p a) (initialRadius s)) (ord
 
 -- four points or fewer are present
 abbrev pub few : State → Bool
-few s = leb (length (s .points)) 4
+few s = leb (length (s .contents .points)) 4
 
 -- the chosen points, in order of choice, and R
 pub record Choice : Type 0 where

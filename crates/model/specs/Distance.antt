@@ -41,8 +41,14 @@ unfoldable pub distance : State → Location → Point → ℕ
 unfolding distanceOf squared
 distance s p a = distanceOf (squared s p a)
 
+-- a point's offset from p, in x and in y
+unfoldable pub offsetX : State → Location → Point → ℤ
+offsetX s p a = pos (a .x) -ℤ pos (p .x)
+
+unfoldable pub offsetY : State → Location → Point → ℤ
+offsetY s p a = pos (a .y) -ℤ pos (p .y)
+
 -- g, the inner product of the offsets of two points from p
 unfoldable pub inner : State → Location → Point → Point → ℤ
-inner s p a b =
-    ((pos (a .x) -ℤ pos (p .x)) *ℤ (pos (b .x) -ℤ pos (p .x)))
-    +ℤ ((pos (a .y) -ℤ pos (p .y)) *ℤ (pos (b .y) -ℤ pos (p .y)))
+unfolding offsetX offsetY
+inner s p a b = (offsetX s p a *ℤ offsetX s p b) +ℤ (offsetY s p a *ℤ offsetY s p b)

@@ -1,23 +1,26 @@
 -- Closed cases that hold the definitions to document 01: the starred rows of its bench table, `closed-rows`; rows of our own that these cannot replace,
--- `further`, `calls`, `files` and `grids`; and the whole case of the grid program.
-use Prim.Native.Nat.{ℕ, _<_}
+-- `further`, `calls`, `lent`, `files`, `refusals` and `grids`; and the whole case of the grid program.
+use Prim.Native.Nat.{ℕ, _+_, _<_}
 use mathlib.Core.Path.{_≡_, refl}
-use mathlib.Core.Bool.{false}
-use mathlib.Core.List.{List, [], _∷_, map, reverse}
+use mathlib.Core.Bool.{true, false}
+use mathlib.Core.List.{List, [], _∷_, _++_, map, reverse}
 use lib.Dec.{lit<}
 use lib.IntN.{ℤ, pos, negsuc, _*ℤ_}
 use lib.ListN.{replicate}
 use Rattle.model.specs.Lists.{tabulate}
-use Rattle.model.specs.Point.{Location, Point, State, point, location, surveyOf}
+use Rattle.model.specs.Point.{Location, Point, Contents, State, point, location, contentsOf, settled, surveyOf}
 use Rattle.model.specs.Distance.{distance}
 use Rattle.model.specs.Radius.{initialRadius}
 use Rattle.model.specs.Choice.{choice}
 use Rattle.model.specs.Influence.{influenceAt, kind}
 use Rattle.model.specs.Fraction.{Signed}
-use Rattle.model.specs.Mean.{mean}
-use Rattle.model.specs.Answer.{Neighbour, answer, chosenCount, neighbours, neighboursInto}
-use Rattle.model.specs.SurveyFile.{fault}
-use Rattle.model.specs.Calls.{Add, Change, Drop, Clear, Load, Lookup, LookupNeighbours, refusal, fresh, present}
+use Rattle.model.specs.Weight.{Neighbourhood, neighbourhood}
+use Rattle.model.specs.Mean.{weightedMean, mean}
+use Rattle.model.specs.Answer.{Neighbour, answer, chosenCount, neighbours}
+use Rattle.model.specs.Refusals.{lookupRefusal, neighboursRefusal}
+use Rattle.model.specs.Lent.{neighboursInto}
+use Rattle.model.specs.SurveyFile.{fault, wrongSize, fileRefusal, fileOf}
+use Rattle.model.specs.Calls.{Add, Change, Drop, Clear, Load, Ask, refusal, fresh, present, edited}
 use Rattle.model.specs.Grid.{Grid, gridRefusal, cells}
 use Rattle.model.specs.Program.{program}
 
@@ -47,6 +50,17 @@ middle = location 100 100
 abbrev kinds : State → Location → List ℕ
 kinds s p = map (λ (n : Neighbour). n .kind) (neighbours s p)
 
+-- the same neighbours with every cosine 1, so that each directional term is 0 and each weight s²
+abbrev undirected : Neighbourhood → Neighbourhood
+undirected h = record { count = h .count; influence = h .influence; excess = λ i j. 0; product = h .product; value = h .value }
+
+-- n points beside (2000,2000), one step apart, and the domain's corners, so that R0 is wide
+abbrev crowd : ℕ → State
+crowd n = surveyOf (point 0 0 (pos 0) ∷ tabulate (λ i. point (2001 + i) 2000 (pos 0)) n ++ point 4095 4095 (pos 0) ∷ [])
+
+abbrev crowded : Location
+crowded = location 2000 2000
+
 -- the mean is a / b
 abbrev pub Is : Signed → ℤ → ℕ → Type 0
 Is m a b = (m .top *ℤ pos b ≡ a *ℤ pos (m .bot)) × (0 < m .bot)
@@ -58,6 +72,8 @@ StarredRows =
     × (answer (two 3 0 (pos 0) 6 0 (pos 90)) (location 0 0) ≡ pos 4608)
     × Is (mean (two 0 0 (pos 0) 9 0 (pos 90)) (location 3 0)) (pos 70) 3
     × (answer (two 0 0 (pos 0) 9 0 (pos 90)) (location 3 0) ≡ pos 5973)
+    × Is (weightedMean (undirected (neighbourhood (two 3 0 (pos 0) 6 0 (pos 90)) (location 0 0)))) (pos 18) 1
+    × Is (weightedMean (undirected (neighbourhood (two 0 0 (pos 0) 9 0 (pos 90)) (location 3 0)))) (pos 18) 1
     × Is (mean (two 0 0 (pos 0) 10 0 (pos 10)) (location 5 0)) (pos 5) 1
     × (answer (two 0 0 (pos 0) 10 0 (pos 10)) (location 5 0) ≡ pos 1280)
     × (chosenCount five middle ≡ 5)
@@ -75,23 +91,27 @@ StarredRows =
     × (map (distance five (location 0 0)) (point 0 0 (pos 0) ∷ point 1 0 (pos 0) ∷ point 1 1 (pos 0) ∷ []) ≡ 0 ∷ 256 ∷ 362 ∷ [])
 
 pub closed-rows : StarredRows
-unfolding mean answer choice neighbours initialRadius influenceAt distance
+unfolding mean answer choice neighbours neighbourhood weightedMean initialRadius influenceAt distance
 closed-rows =
-    ((refl, lit< tt), refl, (refl, lit< tt), refl, (refl, lit< tt), refl, refl, refl, refl, (refl, lit< tt), refl, refl, refl, refl, refl, (refl, lit< tt), refl, refl, refl)
+    ((refl, lit< tt), refl, (refl, lit< tt), refl, (refl, lit< tt), (refl, lit< tt), (refl, lit< tt), refl, refl, refl, refl, (refl, lit< tt), refl, refl, refl, refl, refl, (refl, lit< tt), refl, refl, refl)
 
--- a cosine above 1, one below it, R of the first point left out, the twelve points in reverse, and corner to corner
+-- a cosine above 1, one below it, R of the first point left out, the twelve points in reverse, corner to corner; ten within R0 go by R0, and eleven by D of the eleventh
 pub further : Is (mean (two 1 1 (pos 0) 2 2 (pos 100)) (location 0 0)) (pos 9829700) 491457
     × Is (mean (two 1 1 (pos 0) 3 0 (pos 100)) (location 0 0)) (pos 443873540) 22664297
     × (chosenCount line middle ≡ 4)
     × (choice line middle .radius ≡ 2560)
     × Is (mean (surveyOf (reverse ring)) middle) (pos 5) 2
     × (distance five (location 0 0) (point 4095 4095 (pos 0)) ≡ 1482548)
-unfolding mean choice distance
-further = ((refl, lit< tt), (refl, lit< tt), refl, refl, (refl, lit< tt), refl)
+    × (chosenCount (crowd 10) crowded ≡ 10)
+    × (choice (crowd 10) crowded .radius ≡ 451728)
+    × (chosenCount (crowd 11) crowded ≡ 10)
+    × (choice (crowd 11) crowded .radius ≡ 2816)
+unfolding mean choice distance tabulate
+further = ((refl, lit< tt), (refl, lit< tt), refl, refl, (refl, lit< tt), refl, refl, refl, refl, refl)
 
--- the first refusal that applies, and what a list of them leaves
-abbrev full : State
-full = surveyOf (tabulate (λ i. point i 0 (pos 0)) 256)
+-- the first refusal that applies, and what a list of calls leaves
+abbrev full : Contents
+full = contentsOf (tabulate (λ i. point i 0 (pos 0)) 256)
 
 pub calls : (refusal (Add 4096 0 (pos 128)) full ≡ 1)
     × (refusal (Add 255 0 (pos 128)) full ≡ 2)
@@ -100,15 +120,17 @@ pub calls : (refusal (Add 4096 0 (pos 128)) full ≡ 1)
     × (refusal (Change 5 5 (negsuc 128)) fresh ≡ 2)
     × (refusal (Change 5 5 (negsuc 127)) fresh ≡ 4)
     × (refusal (Drop 0 4095) fresh ≡ 4)
-    × (refusal (Lookup 0 4096) fresh ≡ 1)
-    × (refusal (Lookup 4095 4095) fresh ≡ 6)
-    × (refusal (LookupNeighbours 0 0 9) fresh ≡ 6)
-    × (refusal (LookupNeighbours 0 0 9) five ≡ 8)
-    × (refusal (LookupNeighbours 0 0 10) five ≡ 0)
-    × (present (Add 1 2 (pos 3) ∷ Add 1 2 (pos 4) ∷ Change 1 2 (pos 5) ∷ Add 0 9 (pos 1) ∷ Drop 7 7 ∷ Lookup 0 0 ∷ []) ≡ two 0 9 (pos 1) 1 2 (pos 5))
-    × (present (Add 1 2 (pos 3) ∷ Clear ∷ Add 2 1 (pos 4) ∷ Drop 2 1 ∷ Add 2 1 (pos 6) ∷ Load [] ∷ []) ≡ surveyOf (point 2 1 (pos 6) ∷ []))
-unfolding refusal present tabulate
-calls = (refl, refl, refl, refl, refl, refl, refl, refl, refl, refl, refl, refl, refl, refl)
+    × (lookupRefusal 0 4096 (settled fresh) ≡ 1)
+    × (lookupRefusal 4095 4095 (settled fresh) ≡ 6)
+    × (neighboursRefusal 0 0 9 (settled fresh) ≡ 6)
+    × (neighboursRefusal 0 0 9 five ≡ 8)
+    × (neighboursRefusal 0 0 10 five ≡ 0)
+    × (present (Add 1 2 (pos 3) ∷ Add 1 2 (pos 4) ∷ Change 1 2 (pos 5) ∷ Add 0 9 (pos 1) ∷ Drop 7 7 ∷ Ask ∷ []) ≡ two 0 9 (pos 1) 1 2 (pos 5) .contents)
+    × (present (Add 1 2 (pos 3) ∷ Clear ∷ Add 2 1 (pos 4) ∷ Drop 2 1 ∷ Add 2 1 (pos 6) ∷ Load [] ∷ []) ≡ contentsOf (point 2 1 (pos 6) ∷ []))
+    × (edited (Add 1 2 (pos 3)) (settled fresh) ≡ surveyOf (point 1 2 (pos 3) ∷ []))
+    × (edited (Add 4096 2 (pos 3)) five ≡ five)
+unfolding refusal lookupRefusal neighboursRefusal present edited tabulate
+calls = (refl, refl, refl, refl, refl, refl, refl, refl, refl, refl, refl, refl, refl, refl, refl, refl)
 
 -- a lent list: of eleven records the first two are written, nine are too few, and a refused lookup writes none
 abbrev shown : Neighbour → List ℕ
@@ -116,25 +138,43 @@ shown n = n .x ∷ n .y ∷ n .distance ∷ n .kind ∷ []
 
 pub lent : (neighboursInto shown (two 3 0 (pos 0) 6 0 (pos 90)) 0 0 (replicate 11 []) ≡ (3 ∷ 0 ∷ 768 ∷ 1 ∷ []) ∷ (6 ∷ 0 ∷ 1536 ∷ 1 ∷ []) ∷ replicate 9 [])
     × (neighboursInto shown (two 3 0 (pos 0) 6 0 (pos 90)) 0 0 (replicate 9 []) ≡ replicate 9 [])
-    × (neighboursInto shown fresh 0 0 (replicate 11 []) ≡ replicate 11 [])
+    × (neighboursInto shown (settled fresh) 0 0 (replicate 11 []) ≡ replicate 11 [])
 unfolding neighboursInto
 lent = (refl, refl, refl)
 
--- 14 before 15 within a record, and record by record; the program on no bytes, and on an empty file with nothing before it
-pub files : (fault (point 5 0 (pos 0) ∷ point 4 4096 (pos 0) ∷ []) ≡ 14)
+-- what follows a count c and a distance back b of one byte each, with a sum of 0
+abbrev trailerOf : ℕ → ℕ → ℕ → List ℕ
+trailerOf c c' b = c ∷ c' ∷ 0 ∷ 0 ∷ 0 ∷ b ∷ 0 ∷ 0 ∷ 0x52 ∷ 0x4C ∷ 0x53 ∷ 0x31 ∷ []
+
+-- 96 records whose bytes have a sum above 65,535
+abbrev heavy : List Point
+heavy = tabulate (λ i. point (4000 + i) 4095 (negsuc 0)) 96
+
+-- 12 to 65,536 bytes; at most 256 records; a distance back to before the first byte; the sum modulo 65,536; 14 before 15 within a record, and record by record
+pub files : (map wrongSize (11 ∷ 12 ∷ 65536 ∷ 65537 ∷ []) ≡ true ∷ false ∷ false ∷ true ∷ [])
+    × (fileRefusal (trailerOf 1 1 0) ≡ 11)
+    × (fileRefusal (fileOf (full .points)) ≡ 0)
+    × (fileRefusal (trailerOf 0 1 5) ≡ 12)
+    × (fileRefusal (fileOf heavy) ≡ 0)
+    × (fault (point 5 0 (pos 0) ∷ point 4 4096 (pos 0) ∷ []) ≡ 14)
     × (fault (point 5 0 (pos 0) ∷ point 5 0 (pos 0) ∷ point 4096 0 (pos 0) ∷ []) ≡ 15)
-    × (program [] ≡ 114 ∷ 101 ∷ 102 ∷ 117 ∷ 115 ∷ 101 ∷ 100 ∷ 32 ∷ 57 ∷ 10 ∷ [])
-    × (program (0 ∷ 0 ∷ 0 ∷ 0 ∷ 0 ∷ 0 ∷ 0 ∷ 0 ∷ 0x52 ∷ 0x4C ∷ 0x53 ∷ 0x31 ∷ []) ≡ 114 ∷ 101 ∷ 102 ∷ 117 ∷ 115 ∷ 101 ∷ 100 ∷ 32 ∷ 55 ∷ 10 ∷ [])
-unfolding fault program
-files = (refl, refl, refl, refl)
+unfolding fileRefusal fileOf fault tabulate
+files = (refl, refl, refl, refl, refl, refl, refl)
+
+-- the program on no bytes, on twelve that are no file, and on an empty file with nothing before it: `refused 9`, `refused 10`, `refused 7`
+pub refusals : (program [] ≡ 114 ∷ 101 ∷ 102 ∷ 117 ∷ 115 ∷ 101 ∷ 100 ∷ 32 ∷ 57 ∷ 10 ∷ [])
+    × (program (replicate 12 0) ≡ 114 ∷ 101 ∷ 102 ∷ 117 ∷ 115 ∷ 101 ∷ 100 ∷ 32 ∷ 49 ∷ 48 ∷ 10 ∷ [])
+    × (program (trailerOf 0 0 0) ≡ 114 ∷ 101 ∷ 102 ∷ 117 ∷ 115 ∷ 101 ∷ 100 ∷ 32 ∷ 55 ∷ 10 ∷ [])
+unfolding program
+refusals = (refl, refl, refl)
 
 -- a grid at (x, y) with a step and a count for both axes
 abbrev square : ℕ → ℕ → ℕ → ℕ → Grid
 square x y step n = record { x0 = x; y0 = y; stepX = step; stepY = step; columns = n; rows = n }
 
 -- 7 before 6 before 8; cells row by row, x ascending within a row
-pub grids : (map (λ g. gridRefusal g fresh 0) (square 0 0 0 1 ∷ square 0 0 1 65 ∷ square 0 0 1 0 ∷ square 4096 0 1 1 ∷ square 1 0 65 64 ∷ square 2 0 65535 2 ∷ []) ≡ 7 ∷ 7 ∷ 7 ∷ 7 ∷ 7 ∷ 7 ∷ [])
-    × (gridRefusal (square 0 0 65 64) fresh 0 ≡ 6)
+pub grids : (map (λ g. gridRefusal g (settled fresh) 0) (square 0 0 0 1 ∷ square 0 0 1 65 ∷ square 0 0 1 0 ∷ square 4096 0 1 1 ∷ square 1 0 65 64 ∷ square 2 0 65535 2 ∷ []) ≡ 7 ∷ 7 ∷ 7 ∷ 7 ∷ 7 ∷ 7 ∷ [])
+    × (gridRefusal (square 0 0 65 64) (settled fresh) 0 ≡ 6)
     × (gridRefusal (square 0 0 65 64) five 4095 ≡ 8)
     × (gridRefusal (square 0 0 65 64) five 4096 ≡ 0)
     × (cells (surveyOf (point 5 5 (pos 1) ∷ point 5 7 (pos 3) ∷ point 7 5 (pos 2) ∷ point 7 7 (pos 4) ∷ [])) (square 5 5 2 2) ≡ pos 256 ∷ pos 512 ∷ pos 768 ∷ pos 1024 ∷ [])

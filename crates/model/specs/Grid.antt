@@ -8,7 +8,7 @@ use lib.ListN.{length}
 use Rattle.model.specs.Lists.{tabulate, laid}
 use Rattle.model.specs.Point.{Location, State, location}
 use Rattle.model.specs.Answer.{answer}
-use Rattle.model.specs.Calls.{nonEmpty, enough}
+use Rattle.model.specs.Refusals.{nonEmpty, enough}
 
 pub record Grid : Type 0 where
   pub x0 : ℕ

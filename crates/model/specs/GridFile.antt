@@ -8,7 +8,7 @@ use lib.ListN.{length}
 use Rattle.model.specs.Lists.{laid}
 use Rattle.model.specs.Point.{State}
 use Rattle.model.specs.Bytes.{bytes2, bytes4, complement}
-use Rattle.model.specs.Calls.{enough}
+use Rattle.model.specs.Refusals.{enough}
 use Rattle.model.specs.Grid.{Grid, cells, cellCount, gridCheck}
 
 -- document 01's mark: RLG1

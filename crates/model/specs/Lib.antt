@@ -11,6 +11,8 @@ pub mod Weight
 pub mod Mean
 pub mod Computed
 pub mod Answer
+pub mod Refusals
+pub mod Lent
 pub mod Bytes
 pub mod SurveyFile
 pub mod Calls

@@ -23,17 +23,29 @@ location x y = record { x = x; y = y }
 abbrev pub point : ℕ → ℕ → ℤ → Point
 point x y z = record { x = x; y = y; z = z }
 
--- what a survey holds. A definition that may come to depend on more of it than its points takes it whole
-pub record State : Type 0 where
+-- what calls determine, document 01's what stands: the points
+pub record Contents : Type 0 where
   pub points : List Point
+
+-- what a lookup reads: the contents, and what is kept beside them so that no lookup works it out anew. Nothing is kept yet
+pub record State : Type 0 where
+  pub contents : Contents
+
+-- the contents of a list of points, with nothing else set
+abbrev pub contentsOf : List Point → Contents
+contentsOf l = record { points = l }
+
+-- contents with other points in place of their own
+abbrev pub withPoints : Contents → List Point → Contents
+withPoints q l = record { points = l }
+
+-- contents, and beside them what is kept of them
+abbrev pub settled : Contents → State
+settled q = record { contents = q }
 
 -- the survey of a list of points, with nothing else set
 abbrev pub surveyOf : List Point → State
-surveyOf l = record { points = l }
-
--- a survey with other points in place of its own
-abbrev pub withPoints : State → List Point → State
-withPoints s l = record { points = l }
+surveyOf l = settled (contentsOf l)
 
 -- the domain, document 01's sheet: both coordinates from 0 to 4,095
 abbrev pub inDomain : ℕ → ℕ → Bool

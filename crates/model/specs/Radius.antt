@@ -11,10 +11,10 @@ through op [] = 0
 through op (a ∷ l) = foldl op a l
 
 abbrev pub xs : State → List ℕ
-xs s = map (λ (a : Point). a .x) (s .points)
+xs s = map (λ (a : Point). a .x) (s .contents .points)
 
 abbrev pub ys : State → List ℕ
-ys s = map (λ (a : Point). a .y) (s .points)
+ys s = map (λ (a : Point). a .y) (s .contents .points)
 
 -- A
 unfoldable pub area : State → ℕ
@@ -28,7 +28,7 @@ radiusOf a n = root (65536 * 7 * 113 * a / (355 * n))
 
 unfoldable pub initialRadius : State → ℕ
 unfolding radiusOf area
-initialRadius s = radiusOf (area s) (length (s .points))
+initialRadius s = radiusOf (area s) (length (s .contents .points))
 
 -- document 01's sentence of R0, for an area a and n points: `radius-is` of the crate laws
 pub record IsRadius (a n r : ℕ) : Type 0 where

@@ -1,11 +1,11 @@
 -- The survey file: what is read from it, why it is refused, and what is written: document 01, "Survey file" and "The file's maker".
 use Prim.Native.Nat.{ℕ, _+_, _-_, _*_, _%_}
-use mathlib.Core.Bool.{cond, not, _||_}
+use mathlib.Core.Bool.{Bool, cond, not, _||_}
 use mathlib.Core.List.{List, [], _∷_, _++_, flatMap}
 use lib.Dec.{ltb, eqb}
 use lib.ListN.{length, take, drop}
 use Rattle.model.specs.Lists.{laid}
-use Rattle.model.specs.Point.{Point, State, point, inDomain, precedes}
+use Rattle.model.specs.Point.{Point, point, inDomain, precedes}
 use Rattle.model.specs.Bytes.{word, wordAt, longAt, bytes2, bytes4, complement, signed, same, total}
 
 -- document 01's mark: RLS1
@@ -60,10 +60,14 @@ unfolding faultAfter
 fault [] = 0
 fault (a ∷ l) = cond (inDomain (a .x) (a .y)) (faultAfter a l) 14
 
+-- a file of n bytes is too short for a trailer, or too long
+abbrev pub wrongSize : ℕ → Bool
+wrongSize n = ltb n 12 || ltb 65536 n
+
 -- the first of 9 to 13 that applies, and otherwise whatever follows
 unfoldable pub trailerCheck : List ℕ → ℕ → ℕ
 trailerCheck f n =
-    cond (ltb (length f) 12 || ltb 65536 (length f)) 9
+    cond (wrongSize (length f)) 9
     (cond (not (same (magicIn f) magic)) 10
     (cond (ltb 256 (countIn f)) 11
     (cond (not (eqb (backIn f) (5 * countIn f)) || ltb (trailerStart f) (backIn f)) 12
@@ -92,12 +96,12 @@ unfoldable pub fileOf : List Point → List ℕ
 unfolding records
 fileOf l = records l ++ trailer (length l) (records l)
 
--- writing a state into n lent bytes: 8 where they are too few
-unfoldable pub writeRefusal : State → ℕ → ℕ
+-- writing the file of these points into n lent bytes: 8 where they are too few
+unfoldable pub writeRefusal : List Point → ℕ → ℕ
 unfolding fileOf
-writeRefusal s n = cond (ltb n (length (fileOf (s .points)))) 8 0
+writeRefusal l n = cond (ltb n (length (fileOf l))) 8 0
 
 -- what lent bytes hold after it: the file at their front, or, refused, what they held
-unfoldable pub writtenInto : State → List ℕ → List ℕ
+unfoldable pub writtenInto : List Point → List ℕ → List ℕ
 unfolding writeRefusal fileOf
-writtenInto s d = cond (eqb (writeRefusal s (length d)) 0) (laid (fileOf (s .points)) d) d
+writtenInto l d = cond (eqb (writeRefusal l (length d)) 0) (laid (fileOf l) d) d

@@ -4,7 +4,7 @@ ghost use Prim.Native.Nat.{_*_, _≤_};
 ghost use lib.ListN.{length, take};
 ghost use Rattle.model.specs.Lists.{laid};
 ghost use Rattle.neighbour_bytes.specs.Fields.{fieldBytes, recordsBytes};
-use records::Record;
+use neighbour_records::Record;
 
 // x and y in two bytes each, z in one, the distance in four, the kind in one.
 fn fields(a: Record) -> [u8; 10]

@@ -64,11 +64,11 @@ module _ (s : State) (p : Location) (k : ℕ) (b : Candidates) (h : HoldsEnough 
   unfolding coincident
   at-first ne = rw (squared-at 0 (omega arith)) (starts-first s p (ordered s p) (omega (arith, h .present, length-ordered s p)))
 
-  some : coincident s p ≡ true → 0 < length (s .points)
+  some : coincident s p ≡ true → 0 < length (s .contents .points)
   unfolding coincident
   some e = go (length (ordered s p)) refl
     where
-      go : (n : ℕ) → length (ordered s p) ≡ n → 0 < length (s .points)
+      go : (n : ℕ) → length (ordered s p) ≡ n → 0 < length (s .contents .points)
       go zero q = absurd (false≢true (starts-none p (ordered s p) q ∙ e))
       go (suc n) q = omega (arith, length-ordered s p)
 
@@ -85,7 +85,7 @@ module _ (s : State) (p : Location) (k : ℕ) (b : Candidates) (h : HoldsEnough 
   unfolding distanceAt distance
   distance-at i d g e = e ∙ ap distanceOf (squared-at i g)
 
-  pub selects-few : (m : ℕ) → m ≡ length (s .points) → k ≤ 4 → m ≤ 4 → Selects s p (choiceApart s p) b (record { count = m; radius = 0 })
+  pub selects-few : (m : ℕ) → m ≡ length (s .contents .points) → k ≤ 4 → m ≤ 4 → Selects s p (choiceApart s p) b (record { count = m; radius = 0 })
   selects-few m e l g =
       let n = length-ordered s p in
       rw (rule-few s p (omega (arith, h .within)) (omega arith)) (record {
@@ -94,7 +94,7 @@ module _ (s : State) (p : Location) (k : ℕ) (b : Candidates) (h : HoldsEnough 
         radius = refl;
       })
 
-  pub selects-four : (m d : ℕ) → m ≡ length (s .points) → k ≤ 4 → 4 < m → d ≡ distanceOf (getD (b .items) 4 noCandidate .squared)
+  pub selects-four : (m d : ℕ) → m ≡ length (s .contents .points) → k ≤ 4 → 4 < m → d ≡ distanceOf (getD (b .items) 4 noCandidate .squared)
       → Selects s p (choiceApart s p) b (record { count = 4; radius = d })
   selects-four m d e l g q =
       let five : 4 < b .count = omega (arith, h .enough) in

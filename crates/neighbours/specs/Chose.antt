@@ -1,4 +1,4 @@
--- That a struct holds the neighbours of a location: the choice of document 01, with d² and D beside each point, values in range. What the items past the count hold is free.
+-- That a struct holds the neighbours of a location: the choice of document 01, with D and the offsets beside each point, values in range. What the items past the count hold is free.
 use mathlib.Core.Path.{_≡_}
 use Prim.Native.Nat.{_≤_}
 use mathlib.Core.Bool.{true}
@@ -6,15 +6,16 @@ use mathlib.Core.List.{map}
 use lib.ListN.{length, take}
 use Rattle.model.specs.Lists.{All}
 use Rattle.model.specs.Point.{Location, Point, State, inRange}
-use Rattle.model.specs.Distance.{squared, distance}
+use Rattle.model.specs.Distance.{distance, offsetX, offsetY}
 use Rattle.model.specs.Choice.{Choice, choice, few}
 use Rattle.neighbours.specs.declared.Neighbour.{Neighbour}
 use Rattle.neighbours.specs.declared.Chosen.{Chosen}
 
 -- a point of s, seen from p
 unfoldable pub neighbourAt : State → Location → Point → Neighbour
-unfolding squared distance
-neighbourAt s p a = record { x = a .x; y = a .y; z = a .z; squared = squared s p a; distance = distance s p a }
+unfolding distance offsetX offsetY
+neighbourAt s p a =
+    record { x = a .x; y = a .y; z = a .z; distance = distance s p a; dx = offsetX s p a; dy = offsetY s p a }
 
 -- c holds the choice k
 pub record Holds (s : State) (p : Location) (k : Choice) (c : Chosen) : Type 0 where

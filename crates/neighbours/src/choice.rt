@@ -6,13 +6,15 @@ ghost use lib.ListN.{length, take};
 ghost use Rattle.model.specs.Point.{State, Location};
 ghost use Rattle.model.specs.Radius.{initialRadius};
 ghost use Rattle.model.specs.Choice.{Choice, choice, coincident as coincidentAt, choiceApart};
-ghost use Rattle.neighbours.specs.Selects.{HoldsEnough, Selects, withDistance};
+ghost use Rattle.metric.specs.From.{Sees, Proper};
+ghost use Rattle.neighbours.specs.Selects.{HoldsEnough, Selects, seenFrom};
 ghost use Rattle.neighbours.specs.Chose.{Holds};
 use crate::Chosen;
 use crate::Neighbour;
 use crate::Selection;
 use candidates::Candidate;
 use candidates::Candidates;
+use metric::Viewpoint;
 
 // Whether a point is at the location: the nearest, if any is.
 fn coincident(b: Candidates) -> bool
@@ -27,9 +29,9 @@ fn coincident(b: Candidates) -> bool
 }
 
 // Rules 2 to 5, for a lookup where no point is at the location. m points are present, k of them within R0; R is D of the first point left out, or R0, or 0 where four or fewer are present.
-fn by_count(b: Candidates, m: usize, k: u32, r0: u32) -> Selection
+pub(crate) fn by_count(b: Candidates, m: usize, k: u32, r0: u32) -> Selection
     ensures { λ r. ⌜ r .count ≤ 10 ⌝ }
-    ensures { λ r. ⌜ ((s : State) (p : Location) → HoldsEnough s p k b → m ≡ length (s .points) → r0 ≡ initialRadius s → Selects s p (choiceApart s p) b r) ⌝ }
+    ensures { λ r. ⌜ ((s : State) (p : Location) → HoldsEnough s p k b → m ≡ length (s .contents .points) → r0 ≡ initialRadius s → Selects s p (choiceApart s p) b r) ⌝ }
 {
     let items = b.items;
     if k <= 4 {
@@ -61,7 +63,7 @@ fn by_count(b: Candidates, m: usize, k: u32, r0: u32) -> Selection
 // Rule 1, or the others where no point is at the location.
 pub(crate) fn selected(b: Candidates, m: usize, k: u32, r0: u32) -> Selection
     ensures { λ r. ⌜ r .count ≤ 10 ⌝ }
-    ensures { λ r. ⌜ ((s : State) (p : Location) → HoldsEnough s p k b → m ≡ length (s .points) → r0 ≡ initialRadius s → Selects s p (choice s p) b r) ⌝ }
+    ensures { λ r. ⌜ ((s : State) (p : Location) → HoldsEnough s p k b → m ≡ length (s .contents .points) → r0 ≡ initialRadius s → Selects s p (choice s p) b r) ⌝ }
 {
     if coincident(b) {
         return Selection {
@@ -72,49 +74,51 @@ pub(crate) fn selected(b: Candidates, m: usize, k: u32, r0: u32) -> Selection
     by_count(b, m, k, r0)
 }
 
-fn with_distance(e: Candidate) -> Neighbour
-    ensures { λ r. ⌜ r ≡ withDistance e ⌝ }
+fn seen_from(v: Viewpoint, e: Candidate) -> Neighbour
+    ensures { λ r. ⌜ r ≡ seenFrom v e ⌝ }
 {
     Neighbour {
+        dx: metric::offset_x(v, e.x),
+        dy: metric::offset_y(v, e.y),
         x: e.x,
         y: e.y,
-        z: e.z,
-        squared: e.squared,
         distance: root::distance_of(e.squared),
+        z: e.z,
     }
 }
 
-// The first k of the nearest, with their distances.
-fn neighbours(items: [Candidate; 11], k: usize) -> [Neighbour; 10]
+// The first k of the nearest, with their distances and offsets.
+fn neighbours(v: Viewpoint, items: [Candidate; 11], k: usize) -> [Neighbour; 10]
     requires { ⌜ k ≤ 10 ⌝ }
-    ensures { λ r. ⌜ take k r ≡ map withDistance (take k items) ⌝ }
+    ensures { λ r. ⌜ take k r ≡ map (seenFrom v) (take k items) ⌝ }
 {
     let e = Neighbour {
+        dx: 0,
+        dy: 0,
         x: 0,
         y: 0,
-        z: 0,
-        squared: 0,
         distance: 0,
+        z: 0,
     };
     let mut a = [e; 10];
     let mut i: usize = 0;
     while i < k {
         let c = items[i];
-        a[i] = with_distance(c);
+        a[i] = seen_from(v, c);
         i += 1;
     }
     a
 }
 
 // The chosen ones of the nearest, of m points present.
-pub(crate) fn filled(b: Candidates, t: Selection, m: usize) -> Chosen
+pub(crate) fn filled(v: Viewpoint, b: Candidates, t: Selection, m: usize) -> Chosen
     requires { ⌜ t .count ≤ 10 ⌝ }
-    ensures { λ r. ⌜ ((s : State) (p : Location) (k : ℕ) (c : Choice) → HoldsEnough s p k b → m ≡ length (s .points) → Selects s p c b t → Holds s p c r) ⌝ }
+    ensures { λ r. ⌜ ((s : State) (p : Location) (k : ℕ) (c : Choice) → Sees s p v → Proper v → HoldsEnough s p k b → m ≡ length (s .contents .points) → Selects s p c b t → Holds s p c r) ⌝ }
 {
     let items = b.items;
     let k = t.count;
     Chosen {
-        items: neighbours(items, k),
+        items: neighbours(v, items, k),
         count: k,
         radius: t.radius,
         few: m <= 4,

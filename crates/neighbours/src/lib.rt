@@ -2,23 +2,29 @@
 mod choice;
 
 ghost use mathlib.Core.Path.{_≡_};
-ghost use Prim.Native.Nat.{ℕ, _<_, _≤_};
+ghost use mathlib.Core.List.{List};
+ghost use Prim.Native.Nat.{ℕ, _≤_};
+ghost use lib.IntN.{ℤ};
 ghost use lib.ListN.{length};
-ghost use Rattle.model.specs.Point.{Location, location};
+ghost use Rattle.model.specs.Point.{Location, State};
 ghost use Rattle.model.specs.Radius.{initialRadius};
-ghost use Rattle.columns.specs.Columns.{surveyIn};
+ghost use Rattle.model.specs.Choice.{choice as choiceOf, choiceApart};
+ghost use Rattle.point_arrays.specs.PointArrays.{HoldsPoints};
+ghost use Rattle.metric.specs.From.{Sees, Proper};
 ghost use Rattle.squares.specs.Squares.{HoldsSquares};
-ghost use Rattle.neighbours.specs.Chose.{Chose};
+ghost use Rattle.neighbours.specs.Chose.{Holds};
 ghost use Rattle.neighbours.specs.Selects.{HoldsEnough};
 use candidates::Candidates;
+use metric::Viewpoint;
 
-// A chosen point with its squared distance d² and its distance D.
+// A chosen point with its distance D and its offsets from the location. In this order of the fields a copy of the struct does not part the two offsets.
 pub struct Neighbour {
+    pub dx: i16,
+    pub dy: i16,
     pub x: u16,
     pub y: u16,
-    pub z: i8,
-    pub squared: u32,
     pub distance: u32,
+    pub z: i8,
 }
 
 // The neighbours, the first `count` of `items` in order of choice; the radius R; and whether four points or fewer are present.
@@ -50,9 +56,8 @@ fn among<'a>(
     r0: u32,
 ) -> Nearest
     requires { ⌜ length (now squares) ≤ 256 ⌝ }
-    ensures { λ r. ⌜ ((n : ℕ) (p : Location) → HoldsSquares (surveyIn (now (xs .entry)) (now (ys .entry)) (now (zs .entry)) n) p (now (squares .entry))
-        → r0 ≡ initialRadius (surveyIn (now (xs .entry)) (now (ys .entry)) (now (zs .entry)) n)
-        → HoldsEnough (surveyIn (now (xs .entry)) (now (ys .entry)) (now (zs .entry)) n) p (r .within) (r .first)) ⌝ }
+    ensures { λ r. ⌜ ((s : State) (p : Location) (n : ℕ) → HoldsPoints s (now (xs .entry)) (now (ys .entry)) (now (zs .entry)) n → HoldsSquares s p (now (squares .entry))
+        → r0 ≡ initialRadius s → HoldsEnough s p (r .within) (r .first)) ⌝ }
 {
     let reach = root::reach_of(r0);
     let within = squares::count_within(squares, reach);
@@ -70,41 +75,59 @@ fn blank() -> [u32; 256]
     [0; 256]
 }
 
-// The nearest points of (px, py).
+// The nearest points of a viewpoint.
 fn nearest_points<'a>(
     xs: &'a [u16; 256],
     ys: &'a [u16; 256],
     zs: &'a [i8; 256],
     n: usize,
-    px: u16,
-    py: u16,
+    v: Viewpoint,
     r0: u32,
 ) -> Nearest
-    requires { ⌜ (px < 4096) × (py < 4096) ⌝ }
-    ensures { λ r. ⌜ (r0 ≡ initialRadius (surveyIn (now (xs .entry)) (now (ys .entry)) (now (zs .entry)) n)
-        → HoldsEnough (surveyIn (now (xs .entry)) (now (ys .entry)) (now (zs .entry)) n) (location px py) (r .within) (r .first)) ⌝ }
+    requires { ⌜ Proper v ⌝ }
+    ensures { λ r. ⌜ ((s : State) (p : Location) → HoldsPoints s (now (xs .entry)) (now (ys .entry)) (now (zs .entry)) n → Sees s p v → r0 ≡ initialRadius s
+        → HoldsEnough s p (r .within) (r .first)) ⌝ }
 {
-    let m = columns::clamped(n);
+    let m = point_arrays::clamped(n);
     let mut room = blank();
-    squares::fill(xs, ys, px, py, &mut room[..m]);
+    squares::fill(xs, ys, v, &mut room[..m]);
     among(xs, ys, zs, &room[..m], r0)
 }
 
-// The neighbours of (px, py).
+// The neighbours of a viewpoint, for the initial radius R0.
 pub fn choose<'a>(
     xs: &'a [u16; 256],
     ys: &'a [u16; 256],
     zs: &'a [i8; 256],
     n: usize,
-    px: u16,
-    py: u16,
+    v: Viewpoint,
+    r0: u32,
 ) -> Chosen
-    requires { ⌜ (px < 4096) × (py < 4096) ⌝ }
-    ensures { λ r. ⌜ Chose (surveyIn (now (xs .entry)) (now (ys .entry)) (now (zs .entry)) n) (location px py) r ⌝ }
+    requires { ⌜ Proper v ⌝ }
+    ensures { λ r. ⌜ ((s : State) (p : Location) → HoldsPoints s (now (xs .entry)) (now (ys .entry)) (now (zs .entry)) n → Sees s p v → r0 ≡ initialRadius s
+        → Holds s p (choiceOf s p) r) ⌝ }
 {
-    let m = columns::clamped(n);
-    let r0 = extent::initial_radius(xs, ys, n);
-    let b = nearest_points(xs, ys, zs, n, px, py, r0);
+    let m = point_arrays::clamped(n);
+    let b = nearest_points(xs, ys, zs, n, v, r0);
     let t = choice::selected(b.first, m, b.within, r0);
-    choice::filled(b.first, t, m)
+    choice::filled(v, b.first, t, m)
+}
+
+// The same by rules 2 to 5 alone, whether or not a point is at the viewpoint.
+pub fn choose_apart<'a>(
+    xs: &'a [u16; 256],
+    ys: &'a [u16; 256],
+    zs: &'a [i8; 256],
+    n: usize,
+    v: Viewpoint,
+    r0: u32,
+) -> Chosen
+    requires { ⌜ Proper v ⌝ }
+    ensures { λ r. ⌜ ((s : State) (p : Location) → HoldsPoints s (now (xs .entry)) (now (ys .entry)) (now (zs .entry)) n → Sees s p v → r0 ≡ initialRadius s
+        → Holds s p (choiceApart s p) r) ⌝ }
+{
+    let m = point_arrays::clamped(n);
+    let b = nearest_points(xs, ys, zs, n, v, r0);
+    let t = choice::by_count(b.first, m, b.within, r0);
+    choice::filled(v, b.first, t, m)
 }

@@ -1,6 +1,7 @@
-// Whole numbers: words of bytes, high byte first, two's complement, the sum of bytes, and differences.
+// Whole numbers: words of bytes, high byte first, two's complement, the sum of bytes, differences and sizes.
 ghost use mathlib.Core.Path.{_≡_};
-ghost use Prim.Native.Nat.{_+_, _<_, _≤_};
+ghost use Prim.Native.Nat.{_+_, _^_, _<_, _≤_};
+ghost use lib.IntN.{natAbs};
 ghost use lib.ListN.{length};
 ghost use Rattle.model.specs.Bytes.{wordAt, longAt, complement, signed, total as totalOf};
 ghost use Rattle.model.specs.Distance.{gap as gapOf};
@@ -25,7 +26,7 @@ pub fn word_at(s: &[u8], i: usize) -> usize
 pub fn long_at(s: &[u8], i: usize) -> usize
     requires { ⌜ i + 3 < length (now s) ⌝ }
     ensures { λ r. ⌜ r ≡ longAt (now (s .entry)) i ⌝ }
-    ensures { λ r. ⌜ r < 4294967296 ⌝ }
+    ensures { λ r. ⌜ r < 2 ^ 32 ⌝ }
 {
     65536 * word_at(s, i) + word_at(s, i + 2)
 }
@@ -57,12 +58,12 @@ pub fn signed_of(b: u8) -> i8
 
 // A number of four bytes in two's complement, as a value.
 pub fn signed_long(n: u32) -> i32
-    ensures { λ r. ⌜ r ≡ signed 2147483648 n ⌝ }
+    ensures { λ r. ⌜ r ≡ signed (2 ^ 31) n ⌝ }
 {
-    if n < 2147483648 {
+    if n < 1 << 31 {
         n as i32
     } else {
-        -1 - ((4294967295 - n) as i32)
+        -1 - ((u32::MAX - n) as i32)
     }
 }
 
@@ -71,7 +72,7 @@ pub fn complement_of(z: i8) -> u8
     ensures { λ r. ⌜ r ≡ complement 128 z ⌝ }
 {
     if z < 0 {
-        255 - ((-1 - z) as u8)
+        u8::MAX - ((-1 - z) as u8)
     } else {
         z as u8
     }
@@ -79,10 +80,10 @@ pub fn complement_of(z: i8) -> u8
 
 // A value as a number of two bytes in two's complement.
 pub fn complement_word(a: i16) -> u16
-    ensures { λ r. ⌜ r ≡ complement 32768 a ⌝ }
+    ensures { λ r. ⌜ r ≡ complement (2 ^ 15) a ⌝ }
 {
     if a < 0 {
-        65535 - ((-1 - a) as u16)
+        u16::MAX - ((-1 - a) as u16)
     } else {
         a as u16
     }
@@ -96,4 +97,11 @@ pub fn gap(m: u64, n: u64) -> u64
         return n - m;
     }
     m - n
+}
+
+// The size of a number, whatever its sign.
+pub fn absolute(v: i64) -> u64
+    ensures { λ r. ⌜ r ≡ natAbs v ⌝ }
+{
+    if v < 0 { (-1 - v) as u64 + 1 } else { v as u64 }
 }

@@ -1,11 +1,13 @@
 // Why a call on the points that arrays hold is refused: document 01, "The bench", and 8 of a lookup lent too few neighbour records. The first number that applies, or 0.
 ghost use mathlib.Core.Path.{_≡_};
 ghost use mathlib.Core.List.{List};
-ghost use Prim.Native.Nat.{ℕ};
+ghost use Prim.Native.Nat.{min};
 ghost use lib.IntN.{ℤ};
-ghost use Rattle.model.specs.Point.{inDomain, inRange};
-ghost use Rattle.model.specs.Calls.{Add, Change, Drop, Lookup, LookupNeighbours, taken, onDomain, withinRange, refusal};
-ghost use Rattle.columns.specs.Columns.{pointsIn, surveyIn};
+ghost use lib.ListN.{length};
+ghost use Rattle.model.specs.Point.{State, inDomain, inRange};
+ghost use Rattle.model.specs.Refusals.{onDomain, withinRange, lookupRefusal, neighboursRefusal};
+ghost use Rattle.model.specs.Calls.{Add, Change, Drop, taken, refusal};
+ghost use Rattle.point_arrays.specs.PointArrays.{pointsIn, HoldsPoints};
 
 fn is_in_domain(x: u32, y: u32) -> bool
     ensures { λ r. ⌜ r ≡ inDomain x y ⌝ }
@@ -41,11 +43,11 @@ fn of_values(x: u32, y: u32, z: i32) -> u8
 fn is_taken<'a>(xs: &'a [u16; 256], ys: &'a [u16; 256], n: usize, x: u32, y: u32) -> bool
     ensures { λ r. ⌜ ((zs : List ℤ) → r ≡ taken x y (pointsIn (now (xs .entry)) (now (ys .entry)) zs n)) ⌝ }
 {
-    locate::find(xs, ys, n, x, y) < columns::clamped(n)
+    locate::find(xs, ys, n, x, y) < point_arrays::clamped(n)
 }
 
 pub fn of_add<'a>(xs: &'a [u16; 256], ys: &'a [u16; 256], n: usize, x: u32, y: u32, z: i32) -> u8
-    ensures { λ r. ⌜ ((zs : List ℤ) → r ≡ refusal (Add x y z) (surveyIn (now (xs .entry)) (now (ys .entry)) zs n)) ⌝ }
+    ensures { λ r. ⌜ ((s : State) (zs : List ℤ) → HoldsPoints s (now (xs .entry)) (now (ys .entry)) zs n → r ≡ refusal (Add x y z) (s .contents)) ⌝ }
 {
     let no = of_values(x, y, z);
     if no != 0 {
@@ -61,7 +63,7 @@ pub fn of_add<'a>(xs: &'a [u16; 256], ys: &'a [u16; 256], n: usize, x: u32, y: u
 }
 
 pub fn of_change<'a>(xs: &'a [u16; 256], ys: &'a [u16; 256], n: usize, x: u32, y: u32, z: i32) -> u8
-    ensures { λ r. ⌜ ((zs : List ℤ) → r ≡ refusal (Change x y z) (surveyIn (now (xs .entry)) (now (ys .entry)) zs n)) ⌝ }
+    ensures { λ r. ⌜ ((s : State) (zs : List ℤ) → HoldsPoints s (now (xs .entry)) (now (ys .entry)) zs n → r ≡ refusal (Change x y z) (s .contents)) ⌝ }
 {
     let no = of_values(x, y, z);
     if no != 0 {
@@ -74,7 +76,7 @@ pub fn of_change<'a>(xs: &'a [u16; 256], ys: &'a [u16; 256], n: usize, x: u32, y
 }
 
 pub fn of_drop<'a>(xs: &'a [u16; 256], ys: &'a [u16; 256], n: usize, x: u32, y: u32) -> u8
-    ensures { λ r. ⌜ ((zs : List ℤ) → r ≡ refusal (Drop x y) (surveyIn (now (xs .entry)) (now (ys .entry)) zs n)) ⌝ }
+    ensures { λ r. ⌜ ((s : State) (zs : List ℤ) → HoldsPoints s (now (xs .entry)) (now (ys .entry)) zs n → r ≡ refusal (Drop x y) (s .contents)) ⌝ }
 {
     if !is_in_domain(x, y) {
         return 1;
@@ -87,7 +89,7 @@ pub fn of_drop<'a>(xs: &'a [u16; 256], ys: &'a [u16; 256], n: usize, x: u32, y: 
 
 // Of a lookup in n points, whatever they are.
 pub fn of_lookup(n: usize, x: u32, y: u32) -> u8
-    ensures { λ r. ⌜ ((xs ys : List ℕ) (zs : List ℤ) → r ≡ refusal (Lookup x y) (surveyIn xs ys zs n)) ⌝ }
+    ensures { λ r. ⌜ ((s : State) → length (s .contents .points) ≡ min n 256 → r ≡ lookupRefusal x y s) ⌝ }
 {
     if !is_in_domain(x, y) {
         return 1;
@@ -100,7 +102,7 @@ pub fn of_lookup(n: usize, x: u32, y: u32) -> u8
 
 // The same where `lent` neighbour records are lent.
 pub fn of_lookup_neighbours(n: usize, x: u32, y: u32, lent: usize) -> u8
-    ensures { λ r. ⌜ ((xs ys : List ℕ) (zs : List ℤ) → r ≡ refusal (LookupNeighbours x y lent) (surveyIn xs ys zs n)) ⌝ }
+    ensures { λ r. ⌜ ((s : State) → length (s .contents .points) ≡ min n 256 → r ≡ neighboursRefusal x y lent s) ⌝ }
 {
     let no = of_lookup(n, x, y);
     if no != 0 {

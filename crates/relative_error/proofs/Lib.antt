@@ -8,4 +8,3 @@ pub mod Whole
 pub mod SumLaws
 pub mod Bounds
 pub mod Absolute
-pub mod Search

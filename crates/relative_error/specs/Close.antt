@@ -2,7 +2,7 @@
 -- With B = 2 ^ 53, one rounding of an f64 changes a value by a factor from (B - 1) / B to B / (B - 1). `Close k d u x f` says that
 -- the float x is the fraction f but for k such factors, and that f is zero or lies from 2 ^ -d to 2 ^ u.
 -- Products and quotients add the k's, sums take the larger, and each operation adds one for its own rounding.
-use Prim.Native.Nat.{ℕ, _+_, _*_, _^_, _≤_, _<_}
+use Prim.Native.Nat.{ℕ, _+_, _-_, _*_, _^_, _≤_, _<_}
 use mathlib.Core.Bool.{Bool, true, false}
 use lib.Dec.{T}
 use lib.Ieee.{Float, nan, inf, fin}
@@ -16,10 +16,10 @@ pub record Range (d u : ℕ) (f : Fraction) : Type 0 where
 
 -- B ^ k and (B - 1) ^ k
 unfoldable pub hi : ℕ → ℕ
-hi k = 9007199254740992 ^ k
+hi k = (2 ^ 53) ^ k
 
 unfoldable pub lo : ℕ → ℕ
-lo k = 9007199254740991 ^ k
+lo k = (2 ^ 53 - 1) ^ k
 
 -- a / b is at most (B / (B - 1)) ^ k times p / q
 abbrev pub Under : ℕ → ℕ → ℕ → ℕ → ℕ → Type 0

@@ -1,5 +1,6 @@
 // Load and write: the survey file.
 ghost use Prim.Native.Nat.{_≤_};
+ghost use lib.ListN.{length};
 use crate::edits;
 use crate::journal;
 use crate::replies;
@@ -38,7 +39,9 @@ pub fn load(s: Survey) -> Step {
     load_from(s, &mut file[0..k], n - k)
 }
 
-fn write_into(s: Survey, lent: &mut [u8]) {
+fn write_into(s: Survey, lent: &mut [u8])
+    requires { ⌜ length (now lent) ≤ 65536 ⌝ }
+{
     let w = survey::write(s, lent);
     replies::written(w);
     show::bytes(lent);

@@ -1,4 +1,6 @@
 // A grid's cells, and the grid file.
+ghost use Prim.Native.Nat.{_≤_};
+ghost use lib.ListN.{length};
 use crate::journal;
 use crate::journal::Arguments;
 use crate::replies;
@@ -41,7 +43,9 @@ pub fn cells(s: Survey) -> Step {
     step::next(s)
 }
 
-fn file_into(s: Survey, g: Grid, lent: &mut [u8]) {
+fn file_into(s: Survey, g: Grid, lent: &mut [u8])
+    requires { ⌜ length (now lent) ≤ 65536 ⌝ }
+{
     let w = grid::write(s, g, lent);
     replies::written(w);
     show::bytes(lent);

@@ -26,7 +26,7 @@ pub fn lookup_neighbours(s: Survey) -> Step {
     if 32 < m {
         return step::bad_journal(s);
     }
-    let r = survey::lookup_lending(s, a.long(0), a.long(4), show::untouched(), m);
+    let r = lending::lookup_lending(s, a.long(0), a.long(4), show::untouched(), m);
     let answer = r.answer;
     replies::answered(answer);
     let list = r.records;

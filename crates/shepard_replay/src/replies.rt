@@ -4,28 +4,28 @@ use survey::Answer;
 use survey_file::Written;
 
 pub fn refused(no: u8) {
-    text::word(b"refused ");
-    text::number(no as u64);
-    text::line_feed();
+    print::word(b"refused ");
+    print::number(no as u64);
+    print::line_feed();
 }
 
 // For a call that edits; 0 is no refusal.
 pub fn edited(refusal: u8) {
     if refusal == 0 {
-        text::word(b"ok\n");
+        print::word(b"ok\n");
         return;
     }
     refused(refusal);
 }
 
 pub fn found(answer: i16, count: usize, radius: u32) {
-    text::word(b"found ");
-    text::signed(answer);
-    text::space();
-    text::number(count as u64);
-    text::space();
-    text::number(radius as u64);
-    text::line_feed();
+    print::word(b"found ");
+    print::signed(answer);
+    print::space();
+    print::number(count as u64);
+    print::space();
+    print::number(radius as u64);
+    print::line_feed();
 }
 
 pub fn answered(a: Answer) {
@@ -36,10 +36,10 @@ pub fn answered(a: Answer) {
 }
 
 fn counted(name: &[u8], n: usize) {
-    text::word(name);
-    text::space();
-    text::number(n as u64);
-    text::line_feed();
+    print::word(name);
+    print::space();
+    print::number(n as u64);
+    print::line_feed();
 }
 
 pub fn written(w: Written) {

@@ -1,33 +1,34 @@
 // The line that shows all that was lent to a call, as it is after the call. Before it every lent byte is A5 hexadecimal, every lent cell A5A5, which is -23131, and every field of a lent record A5, so that what a call left alone is seen.
 ghost use Prim.Native.Nat.{_≤_};
-use records::Record;
-use text::chunk;
+ghost use lib.ListN.{length};
+use survey::Record;
 
-pub fn bytes(lent: &[u8]) {
-    text::word(b"bytes");
+// At most 65,536 bytes, in hexadecimal.
+pub fn bytes(lent: &[u8])
+    requires { ⌜ length (now lent) ≤ 65536 ⌝ }
+{
+    print::word(b"bytes");
     if 0 < lent.len() {
-        text::space();
-        text::hexadecimal(lent);
+        print::space();
+        print::hexadecimal(lent);
     }
-    text::line_feed();
+    print::line_feed();
 }
 
+// A space and the value, of each cell.
 fn each_cell(lent: &[i16]) {
-    let mut line = [0u8; 2048];
-    let mut n = 0usize;
     let mut i = 0usize;
     while i < lent.len() {
-        n = chunk::byte(&mut line, n, b' ');
-        n = chunk::signed(&mut line, n, lent[i]);
+        print::space();
+        print::signed(lent[i]);
         i += 1;
     }
-    chunk::write(&line, n);
 }
 
 pub fn values(lent: &[i16]) {
-    text::word(b"values");
+    print::word(b"values");
     each_cell(lent);
-    text::line_feed();
+    print::line_feed();
 }
 
 // Records that no call has written to.
@@ -46,39 +47,42 @@ fn wide(z: i8) -> i16 {
     z as i16
 }
 
-// Adds ` x,y,z,distance,kind` to the characters that wait, and answers how many wait then.
-fn record(r: Record, line: &mut [u8; 2048], waiting: usize) -> usize {
-    let mut n = chunk::byte(line, waiting, b' ');
-    n = chunk::number(line, n, r.x as u64);
-    n = chunk::byte(line, n, b',');
-    n = chunk::number(line, n, r.y as u64);
-    n = chunk::byte(line, n, b',');
-    n = chunk::signed(line, n, wide(r.z));
-    n = chunk::byte(line, n, b',');
-    n = chunk::number(line, n, r.distance as u64);
-    n = chunk::byte(line, n, b',');
-    chunk::number(line, n, r.kind as u64)
+// What parts the fields of a record.
+fn comma() {
+    print::word(b",");
 }
 
+// A space, and x, y, z, distance and kind.
+fn record(r: Record) {
+    print::space();
+    print::number(r.x as u64);
+    comma();
+    print::number(r.y as u64);
+    comma();
+    print::signed(wide(r.z));
+    comma();
+    print::number(r.distance as u64);
+    comma();
+    print::number(r.kind as u64);
+}
+
+// The first m records of the list.
 fn each_record(list: [Record; 32], m: usize)
     requires { ⌜ m ≤ 32 ⌝ }
 {
-    let mut line = [0u8; 2048];
-    let mut n = 0usize;
     let mut i = 0usize;
     while i < m {
         let r = list[i];
-        n = record(r, &mut line, n);
+        record(r);
         i += 1;
     }
-    chunk::write(&line, n);
 }
 
 // Of the list the first m were lent.
 pub fn records(list: [Record; 32], m: usize)
     requires { ⌜ m ≤ 32 ⌝ }
 {
-    text::word(b"records");
+    print::word(b"records");
     each_record(list, m);
-    text::line_feed();
+    print::line_feed();
 }

@@ -22,6 +22,6 @@ pub fn ended(s: Survey) -> Step {
 
 // An unknown call, a number above its limit, or input that ends inside a call.
 pub fn bad_journal(s: Survey) -> Step {
-    text::word(b"bad journal\n");
+    print::word(b"bad journal\n");
     ended(s)
 }

@@ -1,6 +1,6 @@
 -- The squared distances of all points, and which of them are within a limit.
 use mathlib.Core.Path.{_≡_}
-use Prim.Native.Nat.{ℕ, zero, suc, _<_, min, max}
+use Prim.Native.Nat.{ℕ, zero, suc, _^_, _<_, min, max}
 use mathlib.Core.Bool.{Bool, cond}
 use mathlib.Core.List.{List, [], _∷_, _++_, map}
 use lib.Dec.{leb}
@@ -11,11 +11,11 @@ use Rattle.model.specs.Distance.{squared}
 
 -- d² of each point of s, seen from p
 abbrev pub HoldsSquares : State → Location → List ℕ → Type 0
-HoldsSquares s p l = l ≡ map (squared s p) (s .points)
+HoldsSquares s p l = l ≡ map (squared s p) (s .contents .points)
 
 -- each has 32 bits
 abbrev pub Words : List ℕ → Type 0
-Words l = (i : ℕ) → i < length l → getD l i 0 < 4294967296
+Words l = (i : ℕ) → i < length l → getD l i 0 < 2 ^ 32
 
 -- a squared distance is within the limit
 abbrev pub within : ℕ → ℕ → Bool

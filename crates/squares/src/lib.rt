@@ -3,40 +3,24 @@ mod limit;
 
 ghost use mathlib.Core.Path.{_≡_};
 ghost use mathlib.Core.List.{List};
-ghost use Prim.Native.Nat.{ℕ, _<_, _≤_, min};
+ghost use Prim.Native.Nat.{ℕ, _≤_, min};
 ghost use lib.IntN.{ℤ};
 ghost use lib.ListN.{length};
-ghost use Rattle.model.specs.Point.{State, location, point};
-ghost use Rattle.model.specs.Distance.{gap as gapOf, squared};
-ghost use Rattle.columns.specs.Columns.{wrapped, surveyIn};
+ghost use Rattle.model.specs.Point.{Location, State};
+ghost use Rattle.point_arrays.specs.PointArrays.{HoldsPoints};
+ghost use Rattle.metric.specs.From.{Sees, Proper};
 ghost use Rattle.squares.specs.Squares.{HoldsSquares, Words, countWithin, HoldsIndices, needed};
+use metric::Viewpoint;
 
-// The difference of two coordinates, in 16 bits, so that a pass works out eight at a time.
-fn gap(m: u16, n: u16) -> u16
-    ensures { λ r. ⌜ r ≡ gapOf m n ⌝ }
-{
-    if m < n { n - m } else { m - n }
-}
-
-// d² of a point of the arrays as it is read, from (px, py).
-fn squared_at(px: u16, py: u16, x: u16, y: u16) -> u32
-    requires { ⌜ (px < 4096) × (py < 4096) ⌝ }
-    ensures { λ r. ⌜ ((s : State) (z : ℤ) → r ≡ squared s (location px py) (wrapped (point x y z))) ⌝ }
-{
-    let dx = gap(px, columns::coordinate(x)) as u32;
-    let dy = gap(py, columns::coordinate(y)) as u32;
-    dx * dx + dy * dy
-}
-
-// d² of each point from (px, py), as many as there is room for.
-pub fn fill<'a>(xs: &'a [u16; 256], ys: &'a [u16; 256], px: u16, py: u16, out: &mut [u32])
-    requires { ⌜ (px < 4096) × (py < 4096) × (length (now out) ≤ 256) ⌝ }
-    ensures { λ _. ⌜ ((n : ℕ) (zs : List ℤ) → length (now (out .entry)) ≡ min n 256
-        → HoldsSquares (surveyIn (now (xs .entry)) (now (ys .entry)) zs n) (location px py) (now (out .exit))) ⌝ }
+// d² of each point from a viewpoint, as many as there is room for.
+pub fn fill<'a>(xs: &'a [u16; 256], ys: &'a [u16; 256], v: Viewpoint, out: &mut [u32])
+    requires { ⌜ Proper v × (length (now out) ≤ 256) ⌝ }
+    ensures { λ _. ⌜ ((s : State) (p : Location) (zs : List ℤ) (n : ℕ) → HoldsPoints s (now (xs .entry)) (now (ys .entry)) zs n → Sees s p v
+        → length (now (out .entry)) ≡ min n 256 → HoldsSquares s p (now (out .exit))) ⌝ }
 {
     let mut i: usize = 0;
     while i < out.len() {
-        out[i] = squared_at(px, py, xs[i], ys[i]);
+        out[i] = metric::squared_from(v, xs[i], ys[i]);
         i += 1;
     }
 }
@@ -76,10 +60,10 @@ pub fn limit_for(squares: &[u32], k: u32, reach: u32) -> u32
     ensures { λ r. ⌜ needed k (length (now (squares .entry))) ≤ countWithin r (now (squares .entry)) ⌝ }
 {
     if squares.len() <= 11 {
-        return 4294967295;
+        return u32::MAX;
     }
     if k <= 4 {
-        return limit::sought(squares, reach, 4294967295, 5);
+        return limit::sought(squares, reach, u32::MAX, 5);
     }
     if k <= 16 {
         return reach;

@@ -6,7 +6,7 @@ use lib.IntN.{ℤ}
 use lib.ListN.{length, set}
 use mir.Syntax.{w8}
 use mir.Val.{SFits}
-use Rattle.model.specs.Point.{Point, State, point, withPoints}
+use Rattle.model.specs.Point.{Point, Contents, point, withPoints}
 use Rattle.model.specs.Invariant.{Sound}
 use Rattle.model.specs.Calls.{Add, Change, Drop, refusal, accepted}
 use Rattle.laws.proofs.ValueLaws.{range-ends, mag-below}
@@ -17,7 +17,7 @@ use Rattle.locate.specs.Leading.{leading, elsewhere, notAfter}
 use Rattle.locate.proofs.LeadingLaws.{leading-le}
 use Rattle.locate.proofs.IndexLaws.{taken-below, remove-is, revalue-is, insert-is}
 use Rattle.survey.specs.declared.Survey.{Survey}
-use Rattle.survey.specs.Held.{stateOf, Becomes}
+use Rattle.survey.specs.StateOf.{contentsIn, Becomes}
 
 -- a location and a value fit the arrays
 pub record Fits (x y : ℕ) (z : ℤ) : Type 0 where
@@ -31,38 +31,38 @@ sound-fits x y z s =
     let e = range-ends z (s .value) in
     record { fits-x = b .0; fits-y = b .1; fits-z = record { sfits = mag-below z 127 (e .0) (e .1) } }
 
-module _ (x y : ℕ) (z : ℤ) (s : State) where
-  pub add-hands : refusal (Add x y z) s ≡ 0 → (length (s .points) < 256) × Sound (point x y z)
-  add-hands e = let a = add-accepted x y z s e in (a .3, record { location = a .0; value = a .1 })
+module _ (x y : ℕ) (z : ℤ) (q : Contents) where
+  pub add-hands : refusal (Add x y z) q ≡ 0 → (length (q .points) < 256) × Sound (point x y z)
+  add-hands e = let a = add-accepted x y z q e in (a .3, record { location = a .0; value = a .1 })
 
-  pub change-hands : refusal (Change x y z) s ≡ 0 → Sound (point x y z)
-  change-hands e = let a = change-accepted x y z s e in record { location = a .0; value = a .1 }
+  pub change-hands : refusal (Change x y z) q ≡ 0 → Sound (point x y z)
+  change-hands e = let a = change-accepted x y z q e in record { location = a .0; value = a .1 }
 
 module _ (s : Survey) (x y i : ℕ) where
   abbrev l : List Point
-  l = stateOf s .points
+  l = contentsIn s .points
 
   -- where a new point goes
   module _ (at : i ≡ leading (notAfter x y) l) where
     pub rank-within : i ≤ length l
     rank-within = rw at (leading-le (notAfter x y) l)
 
-    pub added : (z : ℤ) (t : Survey) → Becomes s (putIn i (point x y z) l) t → stateOf t ≡ accepted (Add x y z) (stateOf s)
+    pub added : (z : ℤ) (t : Survey) → Becomes s (putIn i (point x y z) l) t → contentsIn t ≡ accepted (Add x y z) (contentsIn s)
     unfolding accepted
-    added z t b = b .state ∙ ap (withPoints (stateOf s)) (ap (λ (k : ℕ). putIn k (point x y z) l) at ∙ sym (insert-is x y z l))
+    added z t b = b .contents ∙ ap (withPoints (contentsIn s)) (ap (λ (k : ℕ). putIn k (point x y z) l) at ∙ sym (insert-is x y z l))
 
   -- where a point is
   module _ (at : i ≡ leading (elsewhere x y) l) where
-    pub change-within : (z : ℤ) → refusal (Change x y z) (stateOf s) ≡ 0 → i < length l
-    change-within z e = rw at (taken-below x y l (change-accepted x y z (stateOf s) e .2))
+    pub change-within : (z : ℤ) → refusal (Change x y z) (contentsIn s) ≡ 0 → i < length l
+    change-within z e = rw at (taken-below x y l (change-accepted x y z (contentsIn s) e .2))
 
-    pub drop-within : refusal (Drop x y) (stateOf s) ≡ 0 → i < length l
-    drop-within e = rw at (taken-below x y l (drop-accepted x y (stateOf s) e .1))
+    pub drop-within : refusal (Drop x y) (contentsIn s) ≡ 0 → i < length l
+    drop-within e = rw at (taken-below x y l (drop-accepted x y (contentsIn s) e .1))
 
-    pub changed : (z : ℤ) (t : Survey) → Becomes s (set l i (point x y z)) t → stateOf t ≡ accepted (Change x y z) (stateOf s)
+    pub changed : (z : ℤ) (t : Survey) → Becomes s (set l i (point x y z)) t → contentsIn t ≡ accepted (Change x y z) (contentsIn s)
     unfolding accepted
-    changed z t b = b .state ∙ ap (withPoints (stateOf s)) (ap (λ (k : ℕ). set l k (point x y z)) at ∙ sym (revalue-is x y z l))
+    changed z t b = b .contents ∙ ap (withPoints (contentsIn s)) (ap (λ (k : ℕ). set l k (point x y z)) at ∙ sym (revalue-is x y z l))
 
-    pub dropped : (t : Survey) → Becomes s (cutOut i l) t → stateOf t ≡ accepted (Drop x y) (stateOf s)
+    pub dropped : (t : Survey) → Becomes s (cutOut i l) t → contentsIn t ≡ accepted (Drop x y) (contentsIn s)
     unfolding accepted
-    dropped t b = b .state ∙ ap (withPoints (stateOf s)) (ap (λ (k : ℕ). cutOut k l) at ∙ sym (remove-is x y l))
+    dropped t b = b .contents ∙ ap (withPoints (contentsIn s)) (ap (λ (k : ℕ). cutOut k l) at ∙ sym (remove-is x y l))

@@ -2,32 +2,33 @@
 use mathlib.Core.Path.{_≡_, sym, ap, _∙_}
 use Prim.Native.Nat.{ℕ}
 use mathlib.Core.List.{List}
+use Rattle.model.specs.Point.{settled}
 use Rattle.model.specs.SurveyFile.{fileRefusal}
 use Rattle.model.specs.Calls.{Call, Load, refusal, accepted}
 use Rattle.model.specs.Program.{stateIn}
-use Rattle.laws.proofs.CallLaws.{after-accepted, after-refused}
+use Rattle.laws.proofs.CallLaws.{edited-accepted, edited-refused}
 use Rattle.survey.specs.declared.Survey.{Survey}
 use Rattle.survey.specs.declared.Reply.{Reply}
-use Rattle.survey.specs.Held.{stateOf, Plain}
+use Rattle.survey.specs.StateOf.{contentsIn, stateOf, Plain}
 use Rattle.survey.specs.Replies.{Replies}
 
 module _ (c : Call) (s : Survey) where
-  pub reply-refused : (n : ℕ) (r : Reply) → n ≡ refusal c (stateOf s) → (n ≡ 0 → ⊥) → (r .refusal ≡ n) × (r .survey ≡ s) → Replies c s r
+  pub reply-refused : (n : ℕ) (r : Reply) → n ≡ refusal c (contentsIn s) → (n ≡ 0 → ⊥) → (r .refusal ≡ n) × (r .survey ≡ s) → Replies c s r
   reply-refused n r e h g =
       record {
         number = g .0 ∙ e;
-        state = ap stateOf (g .1) ∙ sym (after-refused c (stateOf s) (λ k. h (e ∙ k)));
+        state = ap stateOf (g .1) ∙ sym (edited-refused c (stateOf s) (λ k. h (e ∙ k)));
         unaltered = λ _. g .1;
         plain = λ p. rw (g .1) p;
       }
 
-  pub reply-accepted : (n : ℕ) (t : Survey) → n ≡ refusal c (stateOf s) → n ≡ 0 → stateOf t ≡ accepted c (stateOf s) → (Plain s → Plain t)
+  pub reply-accepted : (n : ℕ) (t : Survey) → n ≡ refusal c (contentsIn s) → n ≡ 0 → contentsIn t ≡ accepted c (contentsIn s) → (Plain s → Plain t)
       → Replies c s (record { refusal = n; survey = t })
   reply-accepted n t e h g p =
-      let k : refusal c (stateOf s) ≡ 0 = sym e ∙ h in
+      let k : refusal c (contentsIn s) ≡ 0 = sym e ∙ h in
       record {
         number = e;
-        state = g ∙ sym (after-accepted c (stateOf s) k);
+        state = ap settled g ∙ sym (edited-accepted c (stateOf s) k);
         unaltered = λ f. absurd (f k);
         plain = p;
       }
@@ -40,4 +41,4 @@ module _ (f : List ℕ) (s : Survey) (r : Reply) (h : Replies (Load f) s r) wher
 
   pub load-state : r .refusal ≡ 0 → stateOf (r .survey) ≡ stateIn f
   unfolding refusal accepted
-  load-state e = h .state ∙ after-accepted (Load f) (stateOf s) (sym (h .number) ∙ e)
+  load-state e = h .state ∙ edited-accepted (Load f) (stateOf s) (sym (h .number) ∙ e)

@@ -1,4 +1,4 @@
 -- The definitions that the contracts of this crate cite.
-pub mod Held
+pub mod StateOf
 pub mod Replies
-pub mod Answers
+pub mod LookedUp

@@ -4,13 +4,13 @@ ghost use Prim.Native.Nat.{_+_, _≤_, _<_};
 ghost use lib.ListN.{length, take, drop, set};
 ghost use Rattle.model.specs.Point.{point};
 ghost use Rattle.model.specs.Invariant.{Sound};
-ghost use Rattle.survey.specs.Held.{stateOf, Becomes};
+ghost use Rattle.survey.specs.StateOf.{contentsIn, Becomes};
 use crate::Survey;
 
 // A point at index i, those from there on one further.
 pub(crate) fn with_point(s: Survey, i: usize, x: u32, y: u32, z: i32) -> Survey
-    requires { ⌜ (i ≤ length (stateOf s .points)) × (length (stateOf s .points) < 256) × Sound (point x y z) ⌝ }
-    ensures { λ r. ⌜ Becomes s (take i (stateOf s .points) ++ point x y z ∷ drop i (stateOf s .points)) r ⌝ }
+    requires { ⌜ (i ≤ length (contentsIn s .points)) × (length (contentsIn s .points) < 256) × Sound (point x y z) ⌝ }
+    ensures { λ r. ⌜ Becomes s (take i (contentsIn s .points) ++ point x y z ∷ drop i (contentsIn s .points)) r ⌝ }
 {
     let n = s.count;
     let xs = s.x;
@@ -29,10 +29,10 @@ pub(crate) fn with_point(s: Survey, i: usize, x: u32, y: u32, z: i32) -> Survey
 
 // Without the point at index i, those behind it one nearer.
 pub(crate) fn without_point(s: Survey, i: usize) -> Survey
-    requires { ⌜ i < length (stateOf s .points) ⌝ }
-    ensures { λ r. ⌜ Becomes s (take i (stateOf s .points) ++ drop (i + 1) (stateOf s .points)) r ⌝ }
+    requires { ⌜ i < length (contentsIn s .points) ⌝ }
+    ensures { λ r. ⌜ Becomes s (take i (contentsIn s .points) ++ drop (i + 1) (contentsIn s .points)) r ⌝ }
 {
-    let n = columns::clamped(s.count);
+    let n = point_arrays::clamped(s.count);
     let xs = s.x;
     let ys = s.y;
     let zs = s.z;
@@ -49,8 +49,8 @@ pub(crate) fn without_point(s: Survey, i: usize) -> Survey
 
 // The point (x, y, z) in place of the one at index i.
 pub(crate) fn with_value(s: Survey, i: usize, x: u32, y: u32, z: i32) -> Survey
-    requires { ⌜ (i < length (stateOf s .points)) × Sound (point x y z) ⌝ }
-    ensures { λ r. ⌜ Becomes s (set (stateOf s .points) i (point x y z)) r ⌝ }
+    requires { ⌜ (i < length (contentsIn s .points)) × Sound (point x y z) ⌝ }
+    ensures { λ r. ⌜ Becomes s (set (contentsIn s .points) i (point x y z)) r ⌝ }
 {
     let mut t = s;
     t.x[i] = x as u16;

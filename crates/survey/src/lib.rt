@@ -2,22 +2,23 @@
 mod edits;
 
 ghost use mathlib.Core.Path.{_≡_};
-ghost use mathlib.Core.List.{_++_};
-ghost use Prim.Native.Nat.{_≤_, min};
-ghost use lib.ListN.{length, take, drop};
-ghost use Rattle.model.specs.Point.{location};
+ghost use Prim.Native.Nat.{_≤_};
+ghost use lib.ListN.{length};
+ghost use Rattle.model.specs.Point.{location, settled};
+ghost use Rattle.model.specs.Refusals.{lookupRefusal};
 ghost use Rattle.model.specs.SurveyFile.{writtenInto};
-ghost use Rattle.model.specs.Calls.{Add, Change, Drop, Clear, Load, Lookup, refusal, fresh as freshState};
-ghost use Rattle.model.specs.Answer.{neighboursInto};
-ghost use Rattle.mean.specs.Answers.{AnswersAs};
-ghost use Rattle.records.specs.Records.{recordOf};
+ghost use Rattle.model.specs.Calls.{Add, Change, Drop, Clear, Load, fresh as freshState};
 ghost use Rattle.survey_file.specs.Written.{writtenAs};
-ghost use Rattle.survey.specs.Held.{stateOf, Plain};
+ghost use Rattle.lookup.specs.AnswersAs.{AnswersAs};
+ghost use Rattle.survey.specs.StateOf.{contentsIn, stateOf, Plain};
 ghost use Rattle.survey.specs.Replies.{Replies};
-ghost use Rattle.survey.specs.Answers.{lookedUp, lookedUpLent, Rounded, Selects};
-use mean::Answered;
-use records::Record;
-use records::RecordList;
+ghost use Rattle.survey.specs.LookedUp.{lookedUp, Rounded, Decides};
+use lookup::Answered;
+use metric::Viewpoint;
+pub use neighbour_records::Record;
+use neighbour_records::RecordList;
+pub use neighbour_records::blank;
+use neighbours::Chosen;
 use survey_file::Written;
 
 pub struct Survey {
@@ -39,21 +40,15 @@ pub enum Answer {
     Refused(u8),
 }
 
-// A lookup's answer, and the records to write to the list that it was lent: none where it is refused.
-struct Selection {
-    answer: Answer,
-    list: RecordList,
-}
-
-// What a lookup lent records of an array gives: the answer, and the array after the call.
-pub struct AnswerWithRecords {
+// What a lookup with neighbours decides: its answer, and the records to write to the list that it was lent, none where it is refused.
+pub struct Decision {
     pub answer: Answer,
-    pub records: [Record; 32],
+    pub list: RecordList,
 }
 
 // A survey of no points.
 pub fn fresh() -> Survey
-    ensures { λ r. ⌜ (stateOf r ≡ freshState) × Plain r ⌝ }
+    ensures { λ r. ⌜ (stateOf r ≡ settled freshState) × Plain r ⌝ }
 {
     Survey {
         x: [0u16; 256],
@@ -65,9 +60,9 @@ pub fn fresh() -> Survey
 
 // How many points are present.
 pub fn count(s: Survey) -> usize
-    ensures { λ r. ⌜ (r ≡ length (stateOf s .points)) × (r ≤ 256) ⌝ }
+    ensures { λ r. ⌜ (r ≡ length (contentsIn s .points)) × (r ≤ 256) ⌝ }
 {
-    columns::clamped(s.count)
+    point_arrays::clamped(s.count)
 }
 
 fn refused(no: u8, s: Survey) -> Reply
@@ -163,24 +158,29 @@ pub fn load(s: Survey, file: &[u8]) -> Reply
 
 // The survey file to the front of the lent bytes, and its length: refusal 8.
 pub fn write(s: Survey, out: &mut [u8]) -> Written
-    ensures { λ r. ⌜ r ≡ writtenAs (stateOf s) (length (now (out .entry))) ⌝ }
-    ensures { λ _. ⌜ now (out .exit) ≡ writtenInto (stateOf s) (now (out .entry)) ⌝ }
+    ensures { λ r. ⌜ r ≡ writtenAs (contentsIn s .points) (length (now (out .entry))) ⌝ }
+    ensures { λ _. ⌜ now (out .exit) ≡ writtenInto (contentsIn s .points) (now (out .entry)) ⌝ }
 {
     survey_file::write(&s.x, &s.y, &s.z, s.count, out)
 }
 
 // The answer at a location where the lookup is accepted, and the neighbours that it goes by.
 fn answered(s: Survey, x: u32, y: u32) -> Answered
-    requires { ⌜ refusal (Lookup x y) (stateOf s) ≡ 0 ⌝ }
+    requires { ⌜ lookupRefusal x y (stateOf s) ≡ 0 ⌝ }
     ensures { λ r. ⌜ AnswersAs (stateOf s) (location x y) r ⌝ }
 {
-    mean::answer_at(&s.x, &s.y, &s.z, s.count, x as u16, y as u16)
+    let v = Viewpoint {
+        x: x as u16,
+        y: y as u16,
+    };
+    let r0 = extent::initial_radius(&s.x, &s.y, s.count);
+    lookup::answer_at(&s.x, &s.y, &s.z, s.count, v, r0)
 }
 
 fn found(a: Answered) -> Answer
     ensures { λ r. ⌜ r ≡ Answer.Found (a .answer) (a .chosen .count) (a .chosen .radius) ⌝ }
 {
-    let c = a.chosen;
+    let c: Chosen = a.chosen;
     Answer::Found(a.answer, c.count, c.radius)
 }
 
@@ -197,63 +197,20 @@ pub fn lookup(s: Survey, x: u32, y: u32) -> Answer
     found(a)
 }
 
-// All that a lookup with neighbours decides: where `lent` records are lent, its answer, and which records go to them.
-fn select(s: Survey, x: u32, y: u32, lent: usize) -> Selection
-    ensures { λ r. ⌜ Selects (stateOf s) x y lent r ⌝ }
+// A lookup with neighbours where `lent` records are lent: refusals 1, 6, 8. The crate lending writes the records.
+pub fn decide(s: Survey, x: u32, y: u32, lent: usize) -> Decision
+    ensures { λ r. ⌜ Decides (stateOf s) x y lent r ⌝ }
 {
     let no = refusals::of_lookup_neighbours(s.count, x, y, lent);
     if no != 0 {
-        return Selection {
+        return Decision {
             answer: Answer::Refused(no),
-            list: records::none(),
+            list: neighbour_records::none(),
         };
     }
     let a = answered(s, x, y);
-    Selection {
+    Decision {
         answer: found(a),
-        list: records::records_of(a.chosen),
-    }
-}
-
-// The same answer, and the chosen points' records, in order of choice, to the front of the lent list: refusals 1, 6, 8.
-pub fn lookup_neighbours<'a>(s: Survey, x: u32, y: u32, list: &'a mut [Record]) -> Answer
-    ensures { λ r. ⌜ (r ≡ lookedUpLent (stateOf s) x y (length (now (list .entry))))
-        × Rounded (stateOf s) (location x y) r
-        × (now (list .exit) ≡ neighboursInto recordOf (stateOf s) x y (now (list .entry))) ⌝ }
-{
-    let lent = list.len();
-    let selection = select(s, x, y, lent);
-    let found = selection.list;
-    records::fill(list, found);
-    selection.answer
-}
-
-fn at_most_32(n: usize) -> usize
-    ensures { λ r. ⌜ r ≡ min n 32 ⌝ }
-{
-    if n < 32 {
-        return n;
-    }
-    32
-}
-
-// The same for a caller that holds its records in an array, of which it lends the first n.
-pub fn lookup_lending(
-    s: Survey,
-    x: u32,
-    y: u32,
-    records: [Record; 32],
-    n: usize,
-) -> AnswerWithRecords
-    ensures { λ r. ⌜ (r .answer ≡ lookedUpLent (stateOf s) x y (length (take n records)))
-        × Rounded (stateOf s) (location x y) (r .answer)
-        × (r .records ≡ neighboursInto recordOf (stateOf s) x y (take n records) ++ drop n records) ⌝ }
-{
-    let mut list = records;
-    let m = at_most_32(n);
-    let answer = lookup_neighbours(s, x, y, &mut list[..m]);
-    AnswerWithRecords {
-        answer: answer,
-        records: list,
+        list: neighbour_records::records_of(a.chosen),
     }
 }

@@ -7,8 +7,8 @@ use lib.ListN.{length, length-append, length-map}
 use Rattle.model.specs.Bytes.{bytes2, bytes4, total}
 use Rattle.model.specs.SurveyFile.{records, fileOf, magic}
 use Rattle.laws.proofs.RecordLaws.{length-records}
-use Rattle.columns.specs.Columns.{held, wrapped, pointsIn}
-use Rattle.columns.proofs.HeldLaws.{length-held}
+use Rattle.point_arrays.specs.PointArrays.{held, wrapped, pointsIn}
+use Rattle.point_arrays.proofs.HeldLaws.{length-held}
 
 module _ (x y : List ℕ) (z : List ℤ) (n : ℕ) where
   pub length-records-held : length (records (map wrapped (held x y z n))) ≡ 5 * n

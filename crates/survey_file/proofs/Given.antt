@@ -6,8 +6,8 @@ use lib.ListN.{length}
 use borrow.Author.Tests.{eq-eqb, ne-eqb}
 use Rattle.model.specs.Lists.{tabulate}
 use Rattle.model.specs.Point.{Point}
-use Rattle.columns.specs.Columns.{held}
-use Rattle.columns.proofs.HeldLaws.{length-held}
+use Rattle.point_arrays.specs.PointArrays.{held}
+use Rattle.point_arrays.proofs.HeldLaws.{length-held}
 use Rattle.survey_file.specs.declared.Reading.{Reading}
 use Rattle.survey_file.specs.Reading.{Gives, pointsHeld}
 

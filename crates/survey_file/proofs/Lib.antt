@@ -1,5 +1,5 @@
 -- Facts that the proofs of this crate share, and its theorems: SameSurvey.
 pub mod Encoded
-pub mod Outcome
+pub mod Fitting
 pub mod Given
 pub mod SameSurvey

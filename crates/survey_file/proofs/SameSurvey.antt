@@ -11,19 +11,19 @@ use lib.ListN.{length, take, drop}
 use lib.Seq.{take-append-seam}
 use borrow.Author.Tests.{eq-eqb}
 use Rattle.model.specs.Lists.{Bytes}
-use Rattle.model.specs.Point.{Point, State, surveyOf}
+use Rattle.model.specs.Point.{Point}
 use Rattle.model.specs.Invariant.{Invariant, Sound}
 use Rattle.model.specs.SurveyFile.{fileOf, filePoints, fileRefusal, recordStart, writtenInto}
 use Rattle.laws.proofs.ListLaws.{all-imp}
 use Rattle.laws.proofs.RecordLaws.{domain-bounds}
 use Rattle.laws.proofs.RoundTrip.{file-length, written-read, written-accepted, accepted-ends, accepted-invariant}
-use Rattle.columns.specs.Columns.{held, pointsIn}
-use Rattle.columns.proofs.HeldLaws.{length-held, wrapped-same}
+use Rattle.point_arrays.specs.PointArrays.{held, pointsIn}
+use Rattle.point_arrays.proofs.HeldLaws.{length-held, wrapped-same}
 use Rattle.survey_file.specs.declared.Reading.{Reading}
 use Rattle.survey_file.specs.declared.Written.the-variants.{Length}
 use Rattle.survey_file.specs.Reading.{pointsHeld, ReadsAs}
 use Rattle.survey_file.specs.Written.{writtenAs}
-use Rattle.survey_file.proofs.Outcome.{too-long, fitting}
+use Rattle.survey_file.proofs.Fitting.{too-long, fitting}
 
 -- the points of an accepted file, as the arrays hold them
 pub accepted-points : (f : List ℕ) (r : Reading) → ReadsAs f r → r .refusal ≡ 0 → (fileRefusal f ≡ 0) × (pointsHeld r ≡ filePoints f)
@@ -32,11 +32,11 @@ accepted-points f r h a =
     (e, rw (eq-eqb (fileRefusal f) 0 e) at (h .points))
 
 -- what is accepted is ascending, in range, at most 256
-pub read-invariant : (f : List ℕ) (r : Reading) → ReadsAs f r → r .refusal ≡ 0 → Invariant (surveyOf (pointsHeld r))
+pub read-invariant : (f : List ℕ) (r : Reading) → ReadsAs f r → r .refusal ≡ 0 → Invariant (pointsHeld r)
 read-invariant f r h a = let p = accepted-points f r h a in rw (p .1) (accepted-invariant f (p .0))
 
 -- a survey in arrays is read as it stands
-pub read-as-held : (xs ys : List ℕ) (zs : List ℤ) (n : ℕ) → Invariant (surveyOf (held xs ys zs n)) → pointsIn xs ys zs n ≡ held xs ys zs n
+pub read-as-held : (xs ys : List ℕ) (zs : List ℤ) (n : ℕ) → Invariant (held xs ys zs n) → pointsIn xs ys zs n ≡ held xs ys zs n
 unfolding pointsIn
 read-as-held xs ys zs n i =
     let few : n ≤ 256 = omega (arith, i .count, length-held xs ys zs n) in
@@ -51,22 +51,22 @@ read-written f r b h a =
     accepted-ends f b (p .0) ∙ ap fileOf (sym (p .1) ∙ sym (read-as-held (r .x) (r .y) (r .z) (r .count) (read-invariant f r h a)))
 
 -- the length that writing to d lent bytes answers is that of the file which they then begin with
-pub written-file : (s : State) (d : List ℕ) (n : ℕ) → writtenAs s (length d) ≡ Length n → take n (writtenInto s d) ≡ fileOf (s .points)
-written-file s d n w = elim (decLe (length (fileOf (s .points))) (length d)) [
+pub written-file : (l : List Point) (d : List ℕ) (n : ℕ) → writtenAs l (length d) ≡ Length n → take n (writtenInto l d) ≡ fileOf l
+written-file l d n w = elim (decLe (length (fileOf l)) (length d)) [
   | yes fits ↦
-      let o = fitting s d fits in
-      let size : n ≡ length (fileOf (s .points)) = cc in
-      rw (o .1, size) (take-append-seam (fileOf (s .points)) (drop (length (fileOf (s .points))) d))
+      let o = fitting l d fits in
+      let size : n ≡ length (fileOf l) = cc in
+      rw (o .1, size) (take-append-seam (fileOf l) (drop (length (fileOf l)) d))
   | no short ↦
-      let o = too-long s d (omega arith) in
+      let o = too-long l d (omega arith) in
       let z : _≡_ {A = ℕ} 0 1 = cc in
       absurd (omega arith)
 ]
 
 -- what is written to d lent bytes, and read again, gives the same points
-pub written-then-read : (l : List Point) (d : List ℕ) (n : ℕ) (r : Reading) → Invariant (surveyOf l)
-    → writtenAs (surveyOf l) (length d) ≡ Length n → ReadsAs (take n (writtenInto (surveyOf l) d)) r → (r .refusal ≡ 0) × (pointsHeld r ≡ l)
+pub written-then-read : (l : List Point) (d : List ℕ) (n : ℕ) (r : Reading) → Invariant l
+    → writtenAs l (length d) ≡ Length n → ReadsAs (take n (writtenInto l d)) r → (r .refusal ≡ 0) × (pointsHeld r ≡ l)
 written-then-read l d n r i w h =
-    let again : ReadsAs (fileOf l) r = rw (written-file (surveyOf l) d n w) at h in
+    let again : ReadsAs (fileOf l) r = rw (written-file l d n w) at h in
     let none : r .refusal ≡ 0 = again .refusal ∙ written-accepted [] l i (omega (arith, file-length l, i .count)) in
     (none, accepted-points (fileOf l) r again none .1 ∙ written-read [] l i)

@@ -8,7 +8,7 @@ use lib.Dec.{eqb}
 use lib.ListN.{length}
 use Rattle.model.specs.Point.{Point}
 use Rattle.model.specs.SurveyFile.{fileRefusal, filePoints}
-use Rattle.columns.specs.Columns.{held}
+use Rattle.point_arrays.specs.PointArrays.{held}
 use Rattle.survey_file.specs.declared.Reading.{Reading}
 
 abbrev pub pointsHeld : Reading → List Point

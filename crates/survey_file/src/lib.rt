@@ -2,7 +2,7 @@
 ghost use mathlib.Core.Path.{_≡_};
 ghost use lib.ListN.{length};
 ghost use Rattle.model.specs.SurveyFile.{writtenInto};
-ghost use Rattle.columns.specs.Columns.{surveyIn};
+ghost use Rattle.point_arrays.specs.PointArrays.{pointsIn};
 ghost use Rattle.survey_file.specs.Reading.{ReadsAs};
 ghost use Rattle.survey_file.specs.Written.{writtenAs};
 
@@ -45,7 +45,7 @@ pub fn read(file: &[u8]) -> Reading
     let end = file.len() - 12;
     let count = numbers::word_at(file, end);
     let start = end - 5 * count;
-    let p = record_points::read(&file[start..end], count);
+    let p = read_points::read(&file[start..end], count);
     let fault = p.refusal;
     if fault != 0 {
         return refused(fault);
@@ -70,15 +70,15 @@ pub fn write<'a>(
     count: usize,
     out: &mut [u8],
 ) -> Written
-    ensures { λ r. ⌜ r ≡ writtenAs (surveyIn (now (x .entry)) (now (y .entry)) (now (z .entry)) count) (length (now (out .entry))) ⌝ }
-    ensures { λ _. ⌜ now (out .exit) ≡ writtenInto (surveyIn (now (x .entry)) (now (y .entry)) (now (z .entry)) count) (now (out .entry)) ⌝ }
+    ensures { λ r. ⌜ r ≡ writtenAs (pointsIn (now (x .entry)) (now (y .entry)) (now (z .entry)) count) (length (now (out .entry))) ⌝ }
+    ensures { λ _. ⌜ now (out .exit) ≡ writtenInto (pointsIn (now (x .entry)) (now (y .entry)) (now (z .entry)) count) (now (out .entry)) ⌝ }
 {
-    let n = columns::clamped(count);
+    let n = point_arrays::clamped(count);
     let end = 5 * n;
     if out.len() < end + 12 {
         return Written::Refused(8);
     }
-    record_bytes::write(x, y, z, n, &mut out[..end]);
+    write_points::write(x, y, z, n, &mut out[..end]);
     let sum = numbers::total(&out[..end]);
     let t = trailer::of_records(n, sum);
     bytes::copy(&t, &mut out[end..]);

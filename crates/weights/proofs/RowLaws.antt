@@ -38,22 +38,22 @@ module _ (g : ℕ → Float) (own : Float) (s : List Float) where
     summed = sumF-step _ j (r .summed) (q ∙ ap (mul binary64 (getD s j nan)) e);
   }
 
-module _ (px py : ℕ) (c : Chosen) where
+module _ (c : Chosen) where
   abbrev h : Neighbourhood
-  h = seen px py c
+  h = seen c
 
   own-term : (i : ℕ) → zeroF ≡ termF h i i
   unfolding termF
   own-term i = rw (eq-eqb i i refl)
 
-  other-term : (i j : ℕ) {s v : Float} → (j ≡ i → ⊥) → s ≡ factorAtF h j → v ≡ cosineGap px py (itemAt c i) (itemAt c j) → mul binary64 s v ≡ termF h i j
+  other-term : (i j : ℕ) {s v : Float} → (j ≡ i → ⊥) → s ≡ factorAtF h j → v ≡ cosineGap (itemAt c i) (itemAt c j) → mul binary64 s v ≡ termF h i j
   unfolding termF seen cosineGap
   other-term i j n e f = rw (ne-eqb j i n) (ap₂ (mul binary64) e f)
 
   -- the whole row of i makes the terms of the first i those of the first i + 1
   pub terms-more : (i : ℕ) (s : List Float) {t₀ t : List Float} {sum : Float} → i < c .count → i < length t₀ → HasFactors h s (c .count) → HasTerms h t₀ i
-      → Row (λ k. cosineGap px py (itemAt c i) (itemAt c k)) (getD s i nan) s t₀ t sum i → HasTerms h (set t i (add binary64 sum zeroF)) (i + 1)
+      → Row (λ k. cosineGap (itemAt c i) (itemAt c k)) (getD s i nan) s t₀ t sum i → HasTerms h (set t i (add binary64 sum zeroF)) (i + 1)
   terms-more i s {t₀} {t} I L f e r =
       filled (λ k. sumF (termF h k) (i + 1)) t i (omega (arith, r .size))
       (sumF-step (termF h i) i (r .summed ∙ sumF-same _ (termF h i) i (λ k l. other-term i k (ne-of-lt l) (f k (omega arith)) refl)) (own-term i))
-      (λ k l. r .added k l ∙ sumF-step (termF h k) i (e k l) (other-term k i (ne-of-gt l) (f i I) (cosine-gap-comm px py (itemAt c i) (itemAt c k))))
+      (λ k l. r .added k l ∙ sumF-step (termF h k) i (e k l) (other-term k i (ne-of-gt l) (f i I) (cosine-gap-comm (itemAt c i) (itemAt c k))))

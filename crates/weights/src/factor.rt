@@ -14,7 +14,7 @@ use neighbours::Chosen;
 // The factors of the neighbours, in order of choice.
 pub(crate) fn factors(c: Chosen) -> [f64; 10]
     requires { ⌜ c .count ≤ 10 ⌝ }
-    ensures { λ r. ⌜ ((px py i : ℕ) → i < c .count → getD r i nan ≡ factorF (seen px py c .influence i)) ⌝ }
+    ensures { λ r. ⌜ ((i : ℕ) → i < c .count → getD r i nan ≡ factorF (seen c .influence i)) ⌝ }
 {
     let items = c.items;
     let n = c.count;
@@ -33,7 +33,7 @@ pub(crate) fn factors(c: Chosen) -> [f64; 10]
 // Whether each neighbour is at the edge.
 pub(crate) fn all_edge(c: Chosen) -> bool
     requires { ⌜ c .count ≤ 10 ⌝ }
-    ensures { λ r. ⌜ ((px py : ℕ) → r ≡ allEdge (seen px py c .influence) (c .count)) ⌝ }
+    ensures { λ r. ⌜ r ≡ allEdge (seen c .influence) (c .count) ⌝ }
 {
     let items = c.items;
     let n = c.count;

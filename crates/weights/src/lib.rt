@@ -10,13 +10,13 @@ ghost use Rattle.model.specs.Computed.{weightF};
 ghost use Rattle.weights.specs.Seen.{seen, Bounded};
 use neighbours::Chosen;
 
-// The weights of the neighbours seen from (px, py), in order of choice: 1 each where all are at the edge.
-pub fn weights(c: Chosen, px: u16, py: u16) -> [f64; 10]
+// The weights of the neighbours, in order of choice: 1 each where all are at the edge.
+pub fn weights(c: Chosen) -> [f64; 10]
     requires { ⌜ Bounded c ⌝ }
-    ensures { λ r. ⌜ ((i : ℕ) → i < c .count → getD r i nan ≡ weightF (seen px py c) i) ⌝ }
+    ensures { λ r. ⌜ ((i : ℕ) → i < c .count → getD r i nan ≡ weightF (seen c) i) ⌝ }
 {
     if factor::all_edge(c) {
         return [1.0; 10];
     }
-    directional::weights_apart(c, px, py)
+    directional::weights_apart(c)
 }

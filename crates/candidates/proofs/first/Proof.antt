@@ -43,17 +43,17 @@ returns c =
     let k = c .before .before .first-keys .ensures in
     let h = c .before .before .before .before .before .indices-within .ensures in
     let a = c .before .before .before .before .before .before .before .before in (
-      (λ m p e.
+      (λ s p m g e.
           let xs = a .args .xs .now in
           let ys = a .args .ys .now in
           let zs = a .args .zs .now in
           let squares = a .args .squares .now in
-          let f = found xs ys zs m p squares (a .pre .1) e (a .args .limit) in
+          let f = found s p xs ys zs m g squares (a .pre .1) e (a .args .limit) in
           record {
             count = omega (arith, n, h .count, f);
             items =
                 c .of-keys .ensures .0
-                ∙ rw (k, h .indices) (first-are xs ys zs m p squares (a .pre .1) e (a .args .limit) (c .before .at-most-11 .result) (omega (arith, n)) (omega (arith, n, h .count)));
+                ∙ rw (k, h .indices) (first-are s p xs ys zs m g squares (a .pre .1) e (a .args .limit) (c .before .at-most-11 .result) (omega (arith, n)) (omega (arith, n, h .count)));
           }),
       c .of-keys .ensures .1,
     )

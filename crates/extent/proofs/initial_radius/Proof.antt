@@ -17,7 +17,7 @@ clamped-requires : tie.Need-clamped-requires
 clamped-requires c κs = search needs
 
 returns : tie.Need-returns
-returns c = λ zs. radius-none _ _ zs _ _ (c .before .clamped .ensures) (c .if1 .taken)
+returns c = λ s zs h. radius-none s _ _ zs _ _ h (c .before .clamped .ensures) (c .if1 .taken)
 
 span-requires : tie.Need-span-requires
 span-requires c κs = search needs
@@ -40,7 +40,7 @@ radius-of-requires c κs = let h = small _ _ (c .before .span .ensures .0) (c .s
 returns-2 : tie.Need-returns-2
 returns-2 c =
     let b = c .before .before in
-    λ zs. radius-in _ _ zs _ _ (b .before .before .clamped .ensures) _ _ _ (b .span .ensures .1) (c .before .span2 .ensures .1) (c .radius-of .ensures .0)
+    λ s zs h. radius-in s _ _ zs _ _ h (b .before .before .clamped .ensures) _ _ _ (b .span .ensures .1) (c .before .span2 .ensures .1) (c .radius-of .ensures .0)
 
 pub initial-radius-spec : {M : Type 1} → statement M
 initial-radius-spec =

@@ -6,9 +6,9 @@ use lib.Seq.{length-take-le}
 use borrow.Author.Needs.{needs}
 use Rattle.model.specs.Grid.{gridRefusal}
 use Rattle.laws.proofs.GridLaws.{grid-fits}
-use Rattle.survey.specs.Held.{stateOf}
-use Rattle.grid_rules.specs.Held.{gridOf}
-use Rattle.grid.proofs.Outcomes.{cells-refused, cells-filled}
+use Rattle.survey.specs.StateOf.{stateOf}
+use Rattle.grid_rules.specs.GridOf.{gridOf}
+use Rattle.grid.proofs.FilledLaws.{cells-refused, cells-filled}
 use Rattle.grid.proofs.cells.Statement.{statement}
 use Rattle.grid.proofs.cells.Tie as tie
 

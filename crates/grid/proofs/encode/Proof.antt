@@ -7,8 +7,8 @@ use borrow.Author.Needs.{needs}
 use Rattle.model.specs.Grid.{cells}
 use Rattle.model.specs.GridFile.{gridFile}
 use Rattle.laws.proofs.GridLaws.{few-cells, length-cells}
-use Rattle.survey.specs.Held.{stateOf}
-use Rattle.grid_rules.specs.Held.{gridOf}
+use Rattle.survey.specs.StateOf.{stateOf}
+use Rattle.grid_rules.specs.GridOf.{gridOf}
 use Rattle.grid.proofs.encode.Statement.{statement}
 use Rattle.grid.proofs.encode.Tie as tie
 

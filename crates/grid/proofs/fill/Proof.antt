@@ -9,9 +9,9 @@ use borrow.Rule.Slice.PartMut.{mid-len}
 use Rattle.model.specs.Grid.{rowsOf, cells}
 use Rattle.laws.proofs.Tests.{below-more}
 use Rattle.laws.proofs.GridLaws.{few-cells, row-within}
-use Rattle.survey.specs.Held.{stateOf}
-use Rattle.grid_rules.specs.Held.{gridOf}
-use Rattle.grid.specs.Outcome.{RowRight}
+use Rattle.survey.specs.StateOf.{stateOf}
+use Rattle.grid_rules.specs.GridOf.{gridOf}
+use Rattle.grid.specs.FilledAs.{RowRight}
 use Rattle.grid.proofs.Rows.{row-length, row-more}
 use Rattle.grid.proofs.fill.Statement.{statement}
 use Rattle.grid.proofs.fill.Tie as tie

@@ -13,8 +13,8 @@ use Rattle.model.specs.Lists.{tabulate}
 use Rattle.model.specs.Grid.{row}
 use Rattle.laws.proofs.Tests.{below-more}
 use Rattle.laws.proofs.GridLaws.{proper-axes}
-use Rattle.survey.specs.Held.{stateOf}
-use Rattle.grid_rules.specs.Held.{gridOf}
+use Rattle.survey.specs.StateOf.{stateOf}
+use Rattle.grid_rules.specs.GridOf.{gridOf}
 use Rattle.grid.proofs.Rows.{cellAt, CellRight, cell-more}
 use Rattle.survey.proofs.Looking.{one-answer, not-refused}
 use Rattle.grid.proofs.Looked.{cell-found}

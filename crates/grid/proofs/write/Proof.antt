@@ -6,9 +6,9 @@ use lib.Seq.{length-take-le}
 use borrow.Author.Needs.{needs}
 use Rattle.model.specs.GridFile.{gridFileRefusal}
 use Rattle.laws.proofs.GridLaws.{grid-fits}
-use Rattle.survey.specs.Held.{stateOf}
-use Rattle.grid_rules.specs.Held.{gridOf}
-use Rattle.grid.proofs.Outcomes.{file-refused, file-written}
+use Rattle.survey.specs.StateOf.{stateOf}
+use Rattle.grid_rules.specs.GridOf.{gridOf}
+use Rattle.grid.proofs.FilledLaws.{file-refused, file-written}
 use Rattle.grid.proofs.write.Statement.{statement}
 use Rattle.grid.proofs.write.Tie as tie
 

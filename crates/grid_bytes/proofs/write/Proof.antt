@@ -9,7 +9,7 @@ use borrow.Author.Needs.{needs}
 use Rattle.model.specs.GridFile.{cellsBytes, gridTrailer, fileOfCells}
 use Rattle.laws.proofs.Stores.{laid-after, laid-whole}
 use Rattle.laws.proofs.GridLaws.{length-cells-bytes}
-use Rattle.grid_rules.specs.Held.{gridOf}
+use Rattle.grid_rules.specs.GridOf.{gridOf}
 use Rattle.grid_bytes.proofs.write.Statement.{statement}
 use Rattle.grid_bytes.proofs.write.Tie as tie
 

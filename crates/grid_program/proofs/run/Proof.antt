@@ -4,8 +4,8 @@ use native.Mathlib.Omega.{arith}
 use lib.ListN.{length-take, length-drop}
 use borrow.Author.Needs.{needs}
 use Rattle.laws.proofs.ProgramLaws.{file-decides, preamble-decides}
-use Rattle.survey.specs.Held.{stateOf}
-use Rattle.grid_rules.specs.Held.{gridOf}
+use Rattle.survey.specs.StateOf.{stateOf}
+use Rattle.grid_rules.specs.GridOf.{gridOf}
 use Rattle.survey.proofs.Replying.{load-number, load-state}
 use Rattle.grid_program.proofs.Running.{ends-refused, preamble-short, preamble-long, six-first, grid-refused, grid-written}
 use Rattle.grid_program.proofs.run.Statement.{statement}

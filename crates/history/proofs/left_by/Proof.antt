@@ -1,19 +1,20 @@
--- `left_by` meets its contract. The loop's invariant: the calls that are left lead from the survey to what all of them leave.
-use mathlib.Core.Path.{_≡_, refl, sym, _∙_}
+-- `left_by` meets its contract. The loop's invariant: the survey holds some contents, from which the calls that are left lead to what all of them leave.
+use mathlib.Core.Path.{_≡_, refl, sym, ap, _∙_}
 use Prim.Native.Nat.{_*_, _-_, _/_, _≤_}
 use native.Mathlib.Omega.{arith}
-use lib.ListN.{length, getD}
+use lib.ListN.{length, take, drop, getD}
 use borrow.Author.Needs.{needs}
-use Rattle.model.specs.Calls.{afterAll, present}
-use Rattle.survey.specs.Held.{stateOf}
-use Rattle.history.specs.Encoding.{calls}
+use Rattle.model.specs.Point.{Contents, settled}
+use Rattle.model.specs.Calls.{fresh, after, afterAll, present}
+use Rattle.survey.specs.StateOf.{stateOf}
+use Rattle.history.specs.Encoding.{callOf, calls}
 use Rattle.history.proofs.Turns.{remaining, starts, turn, ends}
 use Rattle.history.proofs.left_by.Statement.{statement}
 use Rattle.history.proofs.left_by.Tie as tie
 
 abbrev Inv-loop : tie.InvT-loop
 Inv-loop records files n t₀ i₀ start₀ t i start =
-    (i ≤ n) × (start ≤ length files) × (afterAll (remaining records files n i start) (stateOf t) ≡ present (calls records files))
+    (i ≤ n) × (start ≤ length files) × (q : Contents) × (stateOf t ≡ settled q) × (afterAll (remaining records files n i start) q ≡ present (calls records files))
 
 abbrev μ-loop : tie.MeasureT-loop
 μ-loop records files n t₀ i₀ start₀ t i start = n - i
@@ -24,7 +25,7 @@ fresh-requires c κs = tt
 loop-holds : tie.Need-loop-holds Inv-loop μ-loop
 loop-holds c =
     let a = c .before .before .before .args in
-    (omega arith, omega arith, rw (c .fresh .ensures .0) (starts (a .records .now) (a .files .now) (length (a .records .now) / 13) refl))
+    (omega arith, omega arith, fresh, c .fresh .ensures .0, starts (a .records .now) (a .files .now) (length (a .records .now) / 25) refl)
 
 mul-at : tie.Need-mul-at Inv-loop μ-loop
 mul-at c = search needs
@@ -32,32 +33,11 @@ mul-at c = search needs
 shared-slice-read-op : tie.Need-shared-slice-read-op Inv-loop μ-loop
 shared-slice-read-op c = omega arith
 
-add-long-at : tie.Need-add-long-at Inv-loop μ-loop
-add-long-at c = search needs
+add-numbers-at : tie.Need-add-numbers-at Inv-loop μ-loop
+add-numbers-at c = search needs
 
-long-at-requires : tie.Need-long-at-requires Inv-loop μ-loop
-long-at-requires c κs = omega arith
-
-cast-a : tie.Need-cast-a Inv-loop μ-loop
-cast-a c = omega (arith, c .long-at .ensures .1)
-
-add-long-at-2 : tie.Need-add-long-at-2 Inv-loop μ-loop
-add-long-at-2 c = search needs
-
-long-at-requires-2 : tie.Need-long-at-requires-2 Inv-loop μ-loop
-long-at-requires-2 c κs = omega arith
-
-cast-b : tie.Need-cast-b Inv-loop μ-loop
-cast-b c = omega (arith, c .long-at2 .ensures .1)
-
-add-long-at-3 : tie.Need-add-long-at-3 Inv-loop μ-loop
-add-long-at-3 c = search needs
-
-long-at-requires-3 : tie.Need-long-at-requires-3 Inv-loop μ-loop
-long-at-requires-3 c κs = omega arith
-
-cast-c : tie.Need-cast-c Inv-loop μ-loop
-cast-c c = omega (arith, c .long-at3 .ensures .1)
+numbers-at-requires : tie.Need-numbers-at-requires Inv-loop μ-loop
+numbers-at-requires c κs = omega arith
 
 file-length-requires : tie.Need-file-length-requires Inv-loop μ-loop
 file-length-requires c κs = tt
@@ -85,20 +65,22 @@ loop-less c = omega arith
 
 loop-again : tie.Need-loop-again Inv-loop μ-loop
 loop-again c =
-    let f = c .before .before .before in
-    let z = f .before in
-    let y = z .before in
-    let x = y .before in
-    let l = x .before .before .before in
+    let d = c .before .before in
+    let f = d .before in
+    let w = f .before .numbers-at in
+    let l = f .before .before .before .before in
+    let m = l .loop in
     let a = l .before .before .before .before .args in
     let j = a .records .now in
-    let m = l .loop in (
+    let fs = a .files .now in
+    let op = getD j (25 * m .i) 0 in
+    let end = d .advance .result in
+    let q = m .inv .2 in (
       omega arith,
       omega arith,
-      turn j (a .files .now) (length j / 13) (m .i) (m .start) (getD j (13 * m .i) 0) (x .long-at .result) (y .long-at2 .result) (z .long-at3 .result) (c .before .before .advance .result)
-          (stateOf (m .t)) (stateOf (c .run-call .result)) (omega arith) (omega arith) refl (x .long-at .ensures .0) (y .long-at2 .ensures .0) (z .long-at3 .ensures .0)
-          (rw (f .file-length .ensures) at (c .before .before .advance .ensures)) (c .run-call .ensures)
-          ∙ m .inv .2,
+      after (callOf op (w .result) (take (end - m .start) (drop (m .start) fs))) q,
+      c .run-call .ensures q (m .inv .3),
+      turn j fs (length j / 25) (m .i) (m .start) op (w .result) end q (omega arith) (omega arith) refl (w .ensures) (rw (f .file-length .ensures) at (d .advance .ensures)) ∙ m .inv .4,
     )
 
 returns : tie.Need-returns Inv-loop μ-loop
@@ -106,7 +88,8 @@ returns c =
     let l = c .before in
     let a = l .before .before .before .before .args in
     let m = l .loop in
-    sym (ends (a .records .now) (a .files .now) (length (a .records .now) / 13) (m .i) (m .start) (stateOf (m .t)) (omega arith)) ∙ m .inv .2
+    m .inv .3
+    ∙ ap settled (sym (ends (a .records .now) (a .files .now) (length (a .records .now) / 25) (m .i) (m .start) (m .inv .2) (omega arith)) ∙ m .inv .4)
 
 pub left-by-spec : {M : Type 1} → statement M
 left-by-spec =
@@ -118,15 +101,8 @@ left-by-spec =
     loop-holds
     mul-at
     shared-slice-read-op
-    add-long-at
-    long-at-requires
-    cast-a
-    add-long-at-2
-    long-at-requires-2
-    cast-b
-    add-long-at-3
-    long-at-requires-3
-    cast-c
+    add-numbers-at
+    numbers-at-requires
     file-length-requires
     advance-requires
     sub-run-call

@@ -14,10 +14,10 @@ use Rattle.model.specs.Lists.{laid}
 use Rattle.model.specs.Mean.{Right}
 use Rattle.model.specs.Answer.{answer}
 use Rattle.laws.proofs.Stores.{laid-more}
-use Rattle.survey.specs.Held.{stateOf}
+use Rattle.survey.specs.StateOf.{stateOf}
 use Rattle.survey.proofs.Looking.{not-refused}
 use Rattle.many_lookups.specs.Locations.{locationsIn}
-use Rattle.many_lookups.specs.Outcome.{firstRefusal, answerBytes, answersBytes, AllRight}
+use Rattle.many_lookups.specs.AnswersInto.{firstRefusal, answerBytes, answersBytes, AllRight}
 use Rattle.many_lookups.proofs.Turns.{nowhere, length-locations, all-more}
 use Rattle.many_lookups.proofs.Looked.{Turn, turn, answer-length, copied, found-fields}
 use Rattle.many_lookups.proofs.fill.Statement.{statement}

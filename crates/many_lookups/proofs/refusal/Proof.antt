@@ -1,20 +1,20 @@
 -- `refusal` meets its contract. The loop's invariant: the first refusal of the lookups that are left is that of all.
 use mathlib.Core.Path.{_≡_, sym, _∙_}
-use Prim.Native.Nat.{_+_, _-_, _≤_}
+use Prim.Native.Nat.{_+_, _-_, _≤_, min}
 use native.Mathlib.Omega.{arith}
 use lib.ListN.{length, drop}
 use borrow.Author.Needs.{needs}
 use borrow.Author.Tests.{eq-eqb, ne-eqb}
 use Rattle.model.specs.Point.{State}
-use Rattle.many_lookups.specs.Refusals.{orElse}
+use Rattle.model.specs.Refusals.{orElse}
 use Rattle.many_lookups.specs.Locations.{locationsIn}
-use Rattle.many_lookups.specs.Outcome.{firstRefusal}
+use Rattle.many_lookups.specs.AnswersInto.{firstRefusal}
 use Rattle.many_lookups.proofs.Turns.{counted-from, none-left}
 use Rattle.many_lookups.proofs.refusal.Statement.{statement}
 use Rattle.many_lookups.proofs.refusal.Tie as tie
 
 abbrev Inv-loop : tie.InvT-loop
-Inv-loop n locations count i₀ i = (i ≤ count) × ((s : State) → length (s .points) ≡ n → firstRefusal s (drop i (locationsIn locations)) ≡ firstRefusal s (locationsIn locations))
+Inv-loop n locations count i₀ i = (i ≤ count) × ((s : State) → length (s .contents .points) ≡ min n 256 → firstRefusal s (drop i (locationsIn locations)) ≡ firstRefusal s (locationsIn locations))
 
 abbrev μ-loop : tie.MeasureT-loop
 μ-loop n locations count i₀ i = count - i
@@ -41,7 +41,7 @@ of-lookup-requires c κs = search needs
 from-here : (q : tie.After-of-lookup Inv-loop μ-loop) (s : State)
     → let l = q .before .before .before .before in
     let a = l .before .before .args in
-    length (s .points) ≡ a .n
+    length (s .contents .points) ≡ min (a .n) 256
     → firstRefusal s (drop (l .loop .i) (locationsIn (a .locations .now))) ≡ orElse (q .of-lookup .result) (firstRefusal s (drop (l .loop .i + 1) (locationsIn (a .locations .now))))
 from-here q s e =
     let y = q .before in
@@ -49,7 +49,7 @@ from-here q s e =
     let l = x .before .before in
     let a = l .before .before .args in
     counted-from (a .locations .now) (l .loop .i) (omega arith) s (x .coordinate .result) (y .coordinate2 .result) (x .coordinate .ensures) (y .coordinate2 .ensures)
-    (a .n) (q .of-lookup .result) (q .of-lookup .ensures) e
+    (q .of-lookup .result) (q .of-lookup .ensures s e)
 
 returns : tie.Need-returns Inv-loop μ-loop
 returns c s e =

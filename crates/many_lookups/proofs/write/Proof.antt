@@ -2,8 +2,8 @@
 use mathlib.Core.Path.{sym, _∙_}
 use native.Mathlib.Omega.{arith}
 use borrow.Author.Needs.{needs}
-use Rattle.survey.specs.Held.{stateOf}
-use Rattle.many_lookups.proofs.Outcomes.{writes-none, writes-short, writes-all}
+use Rattle.survey.specs.StateOf.{stateOf}
+use Rattle.many_lookups.proofs.Answering.{writes-none, writes-short, writes-all}
 use Rattle.many_lookups.proofs.write.Statement.{statement}
 use Rattle.many_lookups.proofs.write.Tie as tie
 
@@ -18,20 +18,20 @@ returns c =
     let r = c .before in
     let n = r .before in
     let a = n .before .before .before .args in
-    writes-none (stateOf (a .s)) (a .locations .now) (a .out .now) (r .refusal .result) (r .refusal .ensures (stateOf (a .s)) (sym (n .count .ensures .0))) (c .if1 .taken)
+    writes-none (stateOf (a .s)) (a .locations .now) (a .out .now) (r .refusal .result) (r .refusal .ensures (stateOf (a .s)) (omega (arith, n .count .ensures))) (c .if1 .taken)
 
 returns-2 : tie.Need-returns-2
 returns-2 c =
     let r = c .before .before in
     let n = r .before in
     let a = n .before .before .before .args in
-    writes-short (stateOf (a .s)) (a .locations .now) (a .out .now) (r .refusal .result) (r .refusal .ensures (stateOf (a .s)) (sym (n .count .ensures .0))) (c .before .if1 .left) (omega arith)
+    writes-short (stateOf (a .s)) (a .locations .now) (a .out .now) (r .refusal .result) (r .refusal .ensures (stateOf (a .s)) (omega (arith, n .count .ensures))) (c .before .if1 .left) (omega arith)
 
 fill-requires : tie.Need-fill-requires
 fill-requires c κs =
     let r = c .before .before .before in
     let n = r .before in
-    (sym (r .refusal .ensures (stateOf (n .before .before .before .args .s)) (sym (n .count .ensures .0))) ∙ c .before .before .if1 .left, omega arith)
+    (sym (r .refusal .ensures (stateOf (n .before .before .before .args .s)) (omega (arith, n .count .ensures))) ∙ c .before .before .if1 .left, omega arith)
 
 same-length : tie.Need-same-length
 same-length c = search needs
@@ -43,7 +43,7 @@ returns-3 c =
     let r = e .before .before in
     let n = r .before in
     let a = n .before .before .before .args in
-    writes-all (stateOf (a .s)) (a .locations .now) (a .out .now) (r .refusal .result) (r .refusal .ensures (stateOf (a .s)) (sym (n .count .ensures .0))) (e .before .if1 .left) (omega arith) _ (f .fill .ensures .0) (f .fill .ensures .1)
+    writes-all (stateOf (a .s)) (a .locations .now) (a .out .now) (r .refusal .result) (r .refusal .ensures (stateOf (a .s)) (omega (arith, n .count .ensures))) (e .before .if1 .left) (omega arith) _ (f .fill .ensures .0) (f .fill .ensures .1)
 
 pub write-spec : {M : Type 1} → statement M
 write-spec =

@@ -6,7 +6,7 @@ use native.Mathlib.Omega.{arith}
 use lib.ListN.{length, take}
 use Rattle.model.specs.Lists.{laid}
 use Rattle.laws.proofs.Stores.{laid-more}
-use Rattle.records.specs.Records.{noRecord}
+use Rattle.neighbour_records.specs.Records.{noRecord}
 use Rattle.neighbour_bytes.specs.Fields.{fieldBytes, recordsBytes}
 use Rattle.neighbour_bytes.proofs.write.Statement.{statement}
 use Rattle.neighbour_bytes.proofs.write.Tie as tie

@@ -1,15 +1,13 @@
 -- `choose` meets its contract: what is selected of the nearest is filled in.
-use mathlib.Core.Path.{sym, _∙_}
+use mathlib.Core.Path.{sym, ap, _∙_}
 use borrow.Author.Needs.{needs}
-use Rattle.columns.proofs.ReadLaws.{length-points}
+use lib.ListN.{length}
+use Rattle.point_arrays.proofs.ReadLaws.{length-points}
 use Rattle.neighbours.proofs.choose.Statement.{statement}
 use Rattle.neighbours.proofs.choose.Tie as tie
 
 clamped-requires : tie.Need-clamped-requires
 clamped-requires c κs = search needs
-
-initial-radius-requires : tie.Need-initial-radius-requires
-initial-radius-requires c κs = search needs
 
 nearest-points-requires : tie.Need-nearest-points-requires
 nearest-points-requires c κs = search needs
@@ -21,22 +19,15 @@ filled-requires : tie.Need-filled-requires
 filled-requires c κs = c .selected .ensures .0
 
 returns : tie.Need-returns
-returns c =
+returns c = λ s p points sees er.
     let d = c .before in
-    let r = d .before .before in
-    let a = r .before .before .args in
-    let er = r .initial-radius .ensures (a .zs .now) in
-    let h = d .before .nearest-points .ensures er in
-    let m = r .before .clamped .ensures ∙ sym (length-points (a .xs .now) (a .ys .now) (a .zs .now) (a .n)) in
-    c .filled .ensures _ _ _ _ h m (d .selected .ensures .1 _ _ h m er)
+    let b = d .before in
+    let a = b .before .before .args in
+    let h = b .nearest-points .ensures s p points sees er in
+    let m = b .before .clamped .ensures ∙ sym (length-points (a .xs .now) (a .ys .now) (a .zs .now) (a .n)) ∙ sym (ap length points) in
+    c .filled .ensures s p _ _ sees (b .before .before .pre) h m (d .selected .ensures .1 s p h m er)
 
 pub choose-spec : {M : Type 1} → statement M
 choose-spec =
     tie.close
-    (tie.spec
-    clamped-requires
-    initial-radius-requires
-    nearest-points-requires
-    selected-requires
-    filled-requires
-    returns)
+    (tie.spec clamped-requires nearest-points-requires selected-requires filled-requires returns)

@@ -1,6 +1,6 @@
 -- `is_taken` meets its contract: a location is taken where the search ends before the last point.
 use mathlib.Core.Path.{sym}
-use Rattle.columns.proofs.ReadLaws.{length-points}
+use Rattle.point_arrays.proofs.ReadLaws.{length-points}
 use Rattle.locate.proofs.IndexLaws.{taken-is}
 use Rattle.refusals.proofs.is_taken.Statement.{statement}
 use Rattle.refusals.proofs.is_taken.Tie as tie

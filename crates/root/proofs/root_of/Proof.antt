@@ -5,7 +5,7 @@ use native.Mathlib.Omega.{arith}
 use borrow.Author.Needs.{needs}
 use Rattle.model.specs.Distance.{root}
 use Rattle.laws.proofs.RootLaws.{sq-le, root-above, root-below, is-root}
-use Rattle.relative_error.proofs.Search.{Narrower}
+use Rattle.floats.proofs.Search.{Narrower}
 use Rattle.root.proofs.root_of.Statement.{statement}
 use Rattle.root.proofs.root_of.Tie as tie
 use Rattle.root.proofs.root_of.Reads as reads

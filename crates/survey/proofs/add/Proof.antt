@@ -2,7 +2,8 @@
 use mathlib.Core.Path.{sym, _∙_}
 use mir.Facts.{toZ-ofZ}
 use Rattle.model.specs.Calls.{Add}
-use Rattle.survey.specs.Held.{stateOf}
+use Rattle.survey.specs.StateOf.{contentsIn, stateOf}
+use Rattle.survey.proofs.Becoming.{holds}
 use Rattle.survey.proofs.Replying.{reply-refused, reply-accepted}
 use Rattle.survey.proofs.Calling.{add-hands, rank-within, added}
 use Rattle.survey.proofs.add.Statement.{statement}
@@ -15,27 +16,26 @@ refused-requires : tie.Need-refused-requires
 refused-requires c κs = tt
 
 returns : tie.Need-returns
-unfolding stateOf
 returns c =
     let n = c .before .before in
     let b = n .before .before .before .before in
     let a = b .args in
-    reply-refused (Add (a .x) (a .y) (a .z)) (a .t1) _ _ (rw (toZ-ofZ (b .fits .z)) at (n .of-add .ensures (a .t1 .z))) (c .before .if1 .taken) (c .refused .ensures)
+    reply-refused (Add (a .x) (a .y) (a .z)) (a .t1) _ _ (rw (toZ-ofZ (b .fits .z)) at (n .of-add .ensures (stateOf (a .t1)) (a .t1 .z) (holds (a .t1)))) (c .before .if1 .taken) (c .refused .ensures)
 
 rank-requires : tie.Need-rank-requires
 rank-requires c κs = tt
 
 with-point-requires : tie.Need-with-point-requires
-unfolding stateOf
+unfolding contentsIn
 with-point-requires c κs =
     let f = c .before .before .before .before in
     let b = f .before .before .before .before .before in
     let a = b .args in
-    let h = add-hands (a .x) (a .y) (a .z) (stateOf (a .t1)) (sym (rw (toZ-ofZ (b .fits .z)) at (f .before .of-add .ensures (a .t1 .z))) ∙ f .if1 .left) in
+    let h = add-hands (a .x) (a .y) (a .z) (contentsIn (a .t1)) (sym (rw (toZ-ofZ (b .fits .z)) at (f .before .of-add .ensures (stateOf (a .t1)) (a .t1 .z) (holds (a .t1)))) ∙ f .if1 .left) in
     (rank-within (a .t1) (a .x) (a .y) _ (c .rank .ensures (a .t1 .z)), h .0, rw (toZ-ofZ (b .fits .z)) (h .1))
 
 returns-2 : tie.Need-returns-2
-unfolding stateOf
+unfolding contentsIn
 returns-2 c =
     let r = c .before in
     let f = r .before .before .before .before in
@@ -43,7 +43,7 @@ returns-2 c =
     let b = n .before .before .before .before in
     let a = b .args in
     let t = rw (toZ-ofZ (b .fits .z)) at (c .with-point .ensures) in
-    reply-accepted (Add (a .x) (a .y) (a .z)) (a .t1) _ _ (rw (toZ-ofZ (b .fits .z)) at (n .of-add .ensures (a .t1 .z))) (f .if1 .left)
+    reply-accepted (Add (a .x) (a .y) (a .z)) (a .t1) _ _ (rw (toZ-ofZ (b .fits .z)) at (n .of-add .ensures (stateOf (a .t1)) (a .t1 .z) (holds (a .t1)))) (f .if1 .left)
     (added (a .t1) (a .x) (a .y) _ (r .rank .ensures (a .t1 .z)) (a .z) _ t) (t .plain)
 
 pub add-spec : {M : Type 1} → statement M

@@ -1,33 +1,36 @@
 -- `answered` meets its contract, which is that of the arithmetic over arrays.
 use native.Mathlib.Omega.{arith}
-use Rattle.survey.specs.Held.{stateOf}
-use Rattle.survey.proofs.Becoming.{points-held}
-use Rattle.survey.proofs.Looking.{lookup-bounds}
+use Rattle.survey.specs.StateOf.{stateOf}
+use Rattle.laws.proofs.CallLaws.{lookup-accepted}
+use Rattle.laws.proofs.RecordLaws.{domain-bounds}
+use Rattle.survey.proofs.Becoming.{holds}
+use Rattle.survey.proofs.Looking.{handed}
 use Rattle.survey.proofs.answered.Statement.{statement}
 use Rattle.survey.proofs.answered.Tie as tie
 
-cast-answer-at : tie.Need-cast-answer-at
-cast-answer-at c =
-    let b = c .before .before .before .before in
-    let a = b .args in
-    omega (arith, lookup-bounds (stateOf (a .t1)) (a .x) (a .y) (b .pre) .0)
+cast-t7 : tie.Need-cast-t7
+cast-t7 c = let a = c .args in omega (arith, domain-bounds (a .x) (a .y) (lookup-accepted (a .x) (a .y) (stateOf (a .t1)) (c .pre) .0) .0)
 
-cast-answer-at-2 : tie.Need-cast-answer-at-2
-cast-answer-at-2 c =
-    let b = c .before .before .before .before in
-    let a = b .args in
-    omega (arith, lookup-bounds (stateOf (a .t1)) (a .x) (a .y) (b .pre) .1)
+cast-t8 : tie.Need-cast-t8
+cast-t8 c = let a = c .args in omega (arith, domain-bounds (a .x) (a .y) (lookup-accepted (a .x) (a .y) (stateOf (a .t1)) (c .pre) .0) .1)
+
+initial-radius-requires : tie.Need-initial-radius-requires
+initial-radius-requires c κs = tt
 
 answer-at-requires : tie.Need-answer-at-requires
 answer-at-requires c κs =
     let b = c .before .before .before .before in
-    let a = b .args in
-    let l = lookup-bounds (stateOf (a .t1)) (a .x) (a .y) (b .pre) in
-    (l .0, l .1, omega (arith, l .2, points-held (a .t1)))
+    let e = b .before .before .before .before in
+    let a = e .args in
+    (stateOf (a .t1), _, handed (a .t1) (a .x) (a .y) _ (e .pre) (b .initial-radius .ensures (stateOf (a .t1)) (a .t1 .z) (holds (a .t1))))
 
 returns : tie.Need-returns
-unfolding stateOf
-returns c = c .answer-at .ensures
+returns c =
+    let b = c .before .before .before .before .before in
+    let e = b .before .before .before .before in
+    let a = e .args in
+    c .answer-at .ensures (stateOf (a .t1)) _ (handed (a .t1) (a .x) (a .y) _ (e .pre) (b .initial-radius .ensures (stateOf (a .t1)) (a .t1 .z) (holds (a .t1))))
 
 pub answered-spec : {M : Type 1} → statement M
-answered-spec = tie.close (tie.spec cast-answer-at cast-answer-at-2 answer-at-requires returns)
+answered-spec =
+    tie.close (tie.spec cast-t7 cast-t8 initial-radius-requires answer-at-requires returns)

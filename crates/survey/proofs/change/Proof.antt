@@ -2,7 +2,8 @@
 use mathlib.Core.Path.{sym, _∙_}
 use mir.Facts.{toZ-ofZ}
 use Rattle.model.specs.Calls.{Change}
-use Rattle.survey.specs.Held.{stateOf}
+use Rattle.survey.specs.StateOf.{contentsIn, stateOf}
+use Rattle.survey.proofs.Becoming.{holds}
 use Rattle.survey.proofs.Replying.{reply-refused, reply-accepted}
 use Rattle.survey.proofs.Calling.{change-hands, change-within, changed}
 use Rattle.survey.proofs.change.Statement.{statement}
@@ -15,27 +16,26 @@ refused-requires : tie.Need-refused-requires
 refused-requires c κs = tt
 
 returns : tie.Need-returns
-unfolding stateOf
 returns c =
     let n = c .before .before in
     let b = n .before .before .before .before in
     let a = b .args in
-    reply-refused (Change (a .x) (a .y) (a .z)) (a .t1) _ _ (rw (toZ-ofZ (b .fits .z)) at (n .of-change .ensures (a .t1 .z))) (c .before .if1 .taken) (c .refused .ensures)
+    reply-refused (Change (a .x) (a .y) (a .z)) (a .t1) _ _ (rw (toZ-ofZ (b .fits .z)) at (n .of-change .ensures (stateOf (a .t1)) (a .t1 .z) (holds (a .t1)))) (c .before .if1 .taken) (c .refused .ensures)
 
 find-requires : tie.Need-find-requires
 find-requires c κs = tt
 
 with-value-requires : tie.Need-with-value-requires
-unfolding stateOf
+unfolding contentsIn
 with-value-requires c κs =
     let f = c .before .before .before .before in
     let b = f .before .before .before .before .before in
     let a = b .args in
-    let e = sym (rw (toZ-ofZ (b .fits .z)) at (f .before .of-change .ensures (a .t1 .z))) ∙ f .if1 .left in
-    (change-within (a .t1) (a .x) (a .y) _ (c .find .ensures (a .t1 .z)) (a .z) e, rw (toZ-ofZ (b .fits .z)) (change-hands (a .x) (a .y) (a .z) (stateOf (a .t1)) e))
+    let e = sym (rw (toZ-ofZ (b .fits .z)) at (f .before .of-change .ensures (stateOf (a .t1)) (a .t1 .z) (holds (a .t1)))) ∙ f .if1 .left in
+    (change-within (a .t1) (a .x) (a .y) _ (c .find .ensures (a .t1 .z)) (a .z) e, rw (toZ-ofZ (b .fits .z)) (change-hands (a .x) (a .y) (a .z) (contentsIn (a .t1)) e))
 
 returns-2 : tie.Need-returns-2
-unfolding stateOf
+unfolding contentsIn
 returns-2 c =
     let r = c .before in
     let f = r .before .before .before .before in
@@ -43,7 +43,7 @@ returns-2 c =
     let b = n .before .before .before .before in
     let a = b .args in
     let t = rw (toZ-ofZ (b .fits .z)) at (c .with-value .ensures) in
-    reply-accepted (Change (a .x) (a .y) (a .z)) (a .t1) _ _ (rw (toZ-ofZ (b .fits .z)) at (n .of-change .ensures (a .t1 .z))) (f .if1 .left)
+    reply-accepted (Change (a .x) (a .y) (a .z)) (a .t1) _ _ (rw (toZ-ofZ (b .fits .z)) at (n .of-change .ensures (stateOf (a .t1)) (a .t1 .z) (holds (a .t1)))) (f .if1 .left)
     (changed (a .t1) (a .x) (a .y) _ (r .find .ensures (a .t1 .z)) (a .z) _ t) (t .plain)
 
 pub change-spec : {M : Type 1} → statement M

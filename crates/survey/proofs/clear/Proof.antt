@@ -2,14 +2,14 @@
 use mathlib.Core.Path.{refl}
 use Rattle.model.specs.Lists.{tabulate}
 use Rattle.model.specs.Calls.{Clear, refusal, accepted}
-use Rattle.columns.specs.Columns.{held, pointsIn}
-use Rattle.survey.specs.Held.{stateOf, Plain}
+use Rattle.point_arrays.specs.PointArrays.{held, pointsIn}
+use Rattle.survey.specs.StateOf.{contentsIn, Plain}
 use Rattle.survey.proofs.Replying.{reply-accepted}
 use Rattle.survey.proofs.clear.Statement.{statement}
 use Rattle.survey.proofs.clear.Tie as tie
 
 returns : tie.Need-returns
-unfolding stateOf Plain pointsIn held tabulate refusal accepted
+unfolding contentsIn Plain pointsIn held tabulate refusal accepted
 returns c = reply-accepted Clear (c .args .s) 0 _ refl refl refl (λ _. refl)
 
 pub clear-spec : {M : Type 1} → statement M

@@ -1,10 +1,10 @@
 -- `load` meets its contract: of an accepted file the arrays hold the points, and they are read as they stand.
 use mathlib.Core.Path.{_≡_, ap, _∙_}
 use native.Mathlib.Omega.{arith}
-use Rattle.model.specs.Point.{surveyOf}
+use Rattle.model.specs.Point.{contentsOf}
 use Rattle.model.specs.Calls.{Load, refusal, accepted}
 use Rattle.survey_file.proofs.SameSurvey.{accepted-points, read-invariant, read-as-held}
-use Rattle.survey.specs.Held.{stateOf, Plain}
+use Rattle.survey.specs.StateOf.{contentsIn, Plain}
 use Rattle.survey.proofs.Replying.{reply-refused, reply-accepted}
 use Rattle.survey.proofs.load.Statement.{statement}
 use Rattle.survey.proofs.load.Tie as tie
@@ -23,7 +23,7 @@ returns c =
     reply-refused (Load (a .file .now)) (a .s) _ _ (f .read .ensures .refusal) (λ e. omega (arith, e)) (c .refused .ensures)
 
 returns-2 : tie.Need-returns-2
-unfolding refusal accepted stateOf Plain
+unfolding refusal accepted contentsIn Plain
 returns-2 c =
     let f = c .before .before .before .before .before in
     let a = f .before .before .args in
@@ -31,7 +31,7 @@ returns-2 c =
     let none : r .refusal ≡ 0 = omega arith in
     let same = read-as-held (r .x) (r .y) (r .z) (r .count) (read-invariant (a .file .now) r (f .read .ensures) none) in
     reply-accepted (Load (a .file .now)) (a .s) _ _ (f .read .ensures .refusal) none
-    (ap surveyOf (same ∙ accepted-points (a .file .now) r (f .read .ensures) none .1)) (λ _. same)
+    (ap contentsOf (same ∙ accepted-points (a .file .now) r (f .read .ensures) none .1)) (λ _. same)
 
 pub load-spec : {M : Type 1} → statement M
 load-spec = tie.close (tie.spec read-requires refused-requires returns returns-2)

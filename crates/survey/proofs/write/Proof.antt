@@ -1,6 +1,6 @@
 -- `write` meets its contract, which is that of the survey file.
 use borrow.Author.Needs.{needs}
-use Rattle.survey.specs.Held.{stateOf}
+use Rattle.survey.specs.StateOf.{contentsIn}
 use Rattle.survey.proofs.write.Statement.{statement}
 use Rattle.survey.proofs.write.Tie as tie
 
@@ -11,7 +11,7 @@ same-length : tie.Need-same-length
 same-length c = search needs
 
 returns : tie.Need-returns
-unfolding stateOf
+unfolding contentsIn
 returns c = c .before .before .write .ensures
 
 pub write-spec : {M : Type 1} → statement M

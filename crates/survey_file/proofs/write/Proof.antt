@@ -6,11 +6,11 @@ use native.Mathlib.Omega.{arith}
 use lib.ListN.{length, drop, length-append, length-drop}
 use lib.Seq.{length-take-le, take-at}
 use Rattle.model.specs.SurveyFile.{records, magic}
-use Rattle.columns.specs.Columns.{surveyIn, held, wrapped}
+use Rattle.point_arrays.specs.PointArrays.{pointsIn, held, wrapped}
 use Rattle.survey_file.specs.declared.Written.the-variants.{Length}
 use Rattle.survey_file.proofs.Encoded.{length-records-held, file-in, length-file-in}
 use Rattle.laws.proofs.Stores.{laid-after}
-use Rattle.survey_file.proofs.Outcome.{too-long, fitting}
+use Rattle.survey_file.proofs.Fitting.{too-long, fitting}
 use Rattle.survey_file.proofs.write.Statement.{statement}
 use Rattle.survey_file.proofs.write.Tie as tie
 
@@ -27,7 +27,7 @@ returns : tie.Need-returns
 returns c =
     let a = c .before .before .before .args in
     let f = length-file-in (a .x .now) (a .y .now) (a .z .now) (c .before .clamped .result) (a .count) (c .before .clamped .ensures) in
-    let w = too-long (surveyIn (a .x .now) (a .y .now) (a .z .now) (a .count)) (a .out .now) (omega arith) in
+    let w = too-long (pointsIn (a .x .now) (a .y .now) (a .z .now) (a .count)) (a .out .now) (omega arith) in
     (sym (w .0), sym (w .1))
 
 slice-relend-prefix-write : tie.Need-slice-relend-prefix-write
@@ -84,7 +84,7 @@ returns-2 c =
     let sized = length-records-held (a .x .now) (a .y .now) (a .z .now) (k .result) in
     let long = length-file-in (a .x .now) (a .y .now) (a .z .now) (k .result) (a .count) (k .ensures) in
     let file = file-in (a .x .now) (a .y .now) (a .z .now) (k .result) (a .count) (k .ensures) in
-    let o = fitting (surveyIn (a .x .now) (a .y .now) (a .z .now) (a .count)) d (omega arith) in
+    let o = fitting (pointsIn (a .x .now) (a .y .now) (a .z .now) (a .count)) d (omega arith) in
     let body = w .write .ensures in
     let sum = rw (body, take-at r (drop end d) end sized) at (v .before .total .ensures) in
     let last = rw (v .of-records .ensures) at (c .before .before .copy .ensures .1) in

@@ -17,13 +17,13 @@ unfolding oneF seen
 returns c =
     let s = c .before .before in
     let a = s .args in
-    let e = sym (c .before .all-edge .ensures (a .px) (a .py)) ∙ c .if1 .taken in
-    λ i h. getD-replicate 10 i oneF nan (omega (arith, s .pre .size)) ∙ sym (weight-edges (seen (a .px) (a .py) (a .c)) i e)
+    let e = sym (c .before .all-edge .ensures) ∙ c .if1 .taken in
+    λ i h. getD-replicate 10 i oneF nan (omega (arith, s .pre .size)) ∙ sym (weight-edges (seen (a .c)) i e)
 
 weights-apart-requires : tie.Need-weights-apart-requires
 weights-apart-requires c κs =
     let s = c .before .before in
-    (s .pre, sym (c .before .all-edge .ensures (s .args .px) (s .args .py)) ∙ c .if1 .left)
+    (s .pre, sym (c .before .all-edge .ensures) ∙ c .if1 .left)
 
 returns-2 : tie.Need-returns-2
 returns-2 c = c .weights-apart .ensures

@@ -7,16 +7,16 @@ use Rattle.shepard_replay.proofs.show.each_cell.Statement.{statement}
 use Rattle.shepard_replay.proofs.show.each_cell.Tie as tie
 
 abbrev Inv-loop : tie.InvT-loop
-Inv-loop lent line₀ n₀ i₀ line n i = Unit {0}
+Inv-loop lent i₀ i = Unit {0}
 
 abbrev μ-loop : tie.MeasureT-loop
-μ-loop lent line₀ n₀ i₀ line n i = length lent - i
+μ-loop lent i₀ i = length lent - i
 
 loop-holds : tie.Need-loop-holds Inv-loop μ-loop
 loop-holds c = tt
 
-byte-requires : tie.Need-byte-requires Inv-loop μ-loop
-byte-requires c κs = tt
+space-requires : tie.Need-space-requires Inv-loop μ-loop
+space-requires c κs = tt
 
 mul-signed : tie.Need-mul-signed Inv-loop μ-loop
 mul-signed c = search needs
@@ -36,9 +36,6 @@ loop-less c = omega arith
 loop-again : tie.Need-loop-again Inv-loop μ-loop
 loop-again c = tt
 
-write-requires : tie.Need-write-requires Inv-loop μ-loop
-write-requires c κs = tt
-
 returns : tie.Need-returns Inv-loop μ-loop
 returns c = tt
 
@@ -49,12 +46,11 @@ each-cell-spec =
     Inv-loop
     μ-loop
     loop-holds
-    byte-requires
+    space-requires
     mul-signed
     shared-slice-copy-out-signed
     signed-requires
     add-i
     loop-less
     loop-again
-    write-requires
     returns)

@@ -5,10 +5,10 @@ use Rattle.shepard_replay.proofs.show.each_record.Statement.{statement}
 use Rattle.shepard_replay.proofs.show.each_record.Tie as tie
 
 abbrev Inv-loop : tie.InvT-loop
-Inv-loop m list line₀ n₀ i₀ line n i = Unit {0}
+Inv-loop m list i₀ i = Unit {0}
 
 abbrev μ-loop : tie.MeasureT-loop
-μ-loop m list line₀ n₀ i₀ line n i = m - i
+μ-loop m list i₀ i = m - i
 
 loop-holds : tie.Need-loop-holds Inv-loop μ-loop
 loop-holds c = tt
@@ -31,9 +31,6 @@ loop-less c = omega arith
 loop-again : tie.Need-loop-again Inv-loop μ-loop
 loop-again c = tt
 
-write-requires : tie.Need-write-requires Inv-loop μ-loop
-write-requires c κs = tt
-
 returns : tie.Need-returns Inv-loop μ-loop
 returns c = tt
 
@@ -50,5 +47,4 @@ each-record-spec =
     add-i
     loop-less
     loop-again
-    write-requires
     returns)

@@ -3,7 +3,7 @@ use Prim.Native.Nat.{ℕ, _-_}
 use native.Mathlib.Omega.{arith}
 use mathlib.Core.Path.{ap}
 use borrow.Author.Needs.{needs}
-use Rattle.columns.proofs.EditLaws.{Sized}
+use Rattle.point_arrays.proofs.EditLaws.{Sized}
 use Rattle.survey.proofs.Becoming.{points-held, becomes-cut}
 use Rattle.survey.proofs.edits.without_point.Statement.{statement}
 use Rattle.survey.proofs.edits.without_point.Tie as tie

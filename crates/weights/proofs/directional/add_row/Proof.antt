@@ -11,10 +11,10 @@ use Rattle.weights.proofs.directional.add_row.Statement.{statement}
 use Rattle.weights.proofs.directional.add_row.Tie as tie
 
 abbrev Inv-loop : tie.InvT-loop
-Inv-loop i px py s t₀ items a own sum₀ j₀ t sum j = (j ≤ i) × Row (λ k. cosineGap px py a (getD items k noNeighbour)) own s t₀ t sum j
+Inv-loop i s t₀ items a own sum₀ j₀ t sum j = (j ≤ i) × Row (λ k. cosineGap a (getD items k noNeighbour)) own s t₀ t sum j
 
 abbrev μ-loop : tie.MeasureT-loop
-μ-loop i px py s t₀ items a own sum₀ j₀ t sum j = i - j
+μ-loop i s t₀ items a own sum₀ j₀ t sum j = i - j
 
 mul-a : tie.Need-mul-a Inv-loop μ-loop
 mul-a c = omega arith
@@ -43,7 +43,7 @@ cosine-gap-requires c κs =
     let m = c .before .before in
     let s = m .before .before .before .before .before in
     let b = s .pre .0 .0 in
-    (b .distances (s .args .i) (s .pre .0 .1), b .distances (m .loop .j) (omega arith))
+    (b .near (s .args .i) (s .pre .0 .1), b .near (m .loop .j) (omega arith))
 
 mul-sum : tie.Need-mul-sum Inv-loop μ-loop
 mul-sum c = omega arith
@@ -89,7 +89,7 @@ returns c =
     let s = c .before .before .before .before .before .before in
     let a = s .args in
     let e : c .before .loop .j ≡ a .i = omega arith in
-    terms-more (a .px) (a .py) (a .c) (a .i) (now (a .s)) (omega arith) (omega arith) (s .pre .1 .0) (s .pre .1 .1) (rw e at (c .before .loop .inv .1))
+    terms-more (a .c) (a .i) (now (a .s)) (omega arith) (omega arith) (s .pre .1 .0) (s .pre .1 .1) (rw e at (c .before .loop .inv .1))
 
 pub add-row-spec : {M : Type 1} → statement M
 add-row-spec =

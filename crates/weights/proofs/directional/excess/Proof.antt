@@ -1,65 +1,58 @@
--- `excess` meets its contract: the inner product is a difference of two sums.
+-- `excess` meets its contract: the difference fits 64 bits with a sign, and its size is below 2⁵³.
+use mathlib.Core.Path.{_∙_}
+use Prim.Native.Nat.{_*_}
 use native.Mathlib.Omega.{arith}
+use lib.IntN.{pos, natAbs, _-ℤ_, _*ℤ_}
 use borrow.Author.Needs.{needs}
-use Rattle.weights.proofs.Products.{excess-between}
+use Rattle.weights.specs.Seen.{innerBetween, excessBetween}
+use Rattle.weights.proofs.Products.{fits-size, scaled-most, excess-most, scaled-is, difference-is, excess-is}
 use Rattle.weights.proofs.directional.excess.Statement.{statement}
 use Rattle.weights.proofs.directional.excess.Tie as tie
-
-two-products-requires : tie.Need-two-products-requires
-two-products-requires c κs = search needs
-
-two-products-requires-2 : tie.Need-two-products-requires-2
-two-products-requires-2 c κs = search needs
-
-add-plus : tie.Need-add-plus
-add-plus c = omega arith
-
-two-products-requires-3 : tie.Need-two-products-requires-3
-two-products-requires-3 c κs = search needs
-
-two-products-requires-4 : tie.Need-two-products-requires-4
-two-products-requires-4 c κs = search needs
-
-add-minus : tie.Need-add-minus
-add-minus c = omega arith
 
 product-requires : tie.Need-product-requires
 product-requires c κs = search needs
 
-mul-gap : tie.Need-mul-gap
-mul-gap c = omega arith
+cast-absolute : tie.Need-cast-absolute
+cast-absolute c = search needs
 
-add-gap : tie.Need-add-gap
-add-gap c = omega arith
+inner-requires : tie.Need-inner-requires
+inner-requires c κs = search needs
 
-mul-gap-2 : tie.Need-mul-gap-2
-mul-gap-2 c = omega arith
+mul-absolute : tie.Need-mul-absolute
+mul-absolute c =
+    let s = c .before .before in
+    let a = s .args .a in
+    let b = s .args .b in
+    rw (scaled-is a b (s .pre .0) (s .pre .1) _ (c .inner .ensures)) (fits-size (pos 65536 *ℤ innerBetween a b) (omega (arith, scaled-most a b (s .pre .0) (s .pre .1))))
 
-gap-requires : tie.Need-gap-requires
-gap-requires c κs = search needs
+sub-absolute : tie.Need-sub-absolute
+sub-absolute c =
+    let s = c .before .before in
+    let a = s .args .a in
+    let b = s .args .b in
+    rw (difference-is a b (s .pre .0) (s .pre .1) _ _ (c .before .product .ensures .0) (c .inner .ensures))
+    (fits-size (pos (a .distance * b .distance) -ℤ (pos 65536 *ℤ innerBetween a b)) (omega (arith, excess-most a b (s .pre .0) (s .pre .1))))
+
+absolute-requires : tie.Need-absolute-requires
+absolute-requires c κs = search needs
 
 returns : tie.Need-returns
+unfolding excessBetween
 returns c =
-    let a = c .before .before .before .before .before .before .args in
-    let p = c .before .before in (
-      excess-between (a .px) (a .py) (a .a) (a .b) (c .gap .ensures) (c .before .product .ensures .0) (p .before .before .before .two-products .ensures .0)
-          (p .before .before .two-products2 .ensures .0) (p .before .two-products3 .ensures .0) (p .two-products4 .ensures .0),
-      omega arith,
-    )
+    let s = c .before .before .before in
+    let a = s .args .a in
+    let b = s .args .b in
+    let e = c .absolute .ensures ∙ excess-is a b (s .pre .0) (s .pre .1) _ _ (c .before .before .product .ensures .0) (c .before .inner .ensures) in
+    (e, omega (arith, e, excess-most a b (s .pre .0) (s .pre .1)))
 
 pub excess-spec : {M : Type 1} → statement M
 excess-spec =
     tie.close
     (tie.spec
-    two-products-requires
-    two-products-requires-2
-    add-plus
-    two-products-requires-3
-    two-products-requires-4
-    add-minus
     product-requires
-    mul-gap
-    add-gap
-    mul-gap-2
-    gap-requires
+    cast-absolute
+    inner-requires
+    mul-absolute
+    sub-absolute
+    absolute-requires
     returns)

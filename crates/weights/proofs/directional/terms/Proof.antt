@@ -11,10 +11,10 @@ use Rattle.weights.proofs.directional.terms.Statement.{statement}
 use Rattle.weights.proofs.directional.terms.Tie as tie
 
 abbrev Inv-loop : tie.InvT-loop
-Inv-loop c px py s n t₀ i₀ t i = (i ≤ n) × (length t ≡ 10) × HasTerms (seen px py c) t i
+Inv-loop c s n t₀ i₀ t i = (i ≤ n) × (length t ≡ 10) × HasTerms (seen c) t i
 
 abbrev μ-loop : tie.MeasureT-loop
-μ-loop c px py s n t₀ i₀ t i = n - i
+μ-loop c s n t₀ i₀ t i = n - i
 
 loop-holds : tie.Need-loop-holds Inv-loop μ-loop
 loop-holds c = (omega arith, search needs, λ k h. absurd (not-suc-le-zero h))
@@ -35,7 +35,7 @@ loop-less : tie.Need-loop-less Inv-loop μ-loop
 loop-less c = omega arith
 
 loop-again : tie.Need-loop-again Inv-loop μ-loop
-loop-again c = (omega arith, omega (arith, c .before .add-row .kept .1 .1 .1 .1 .1 .0), c .before .add-row .ensures)
+loop-again c = (omega arith, omega (arith, c .before .add-row .kept .1 .1 .1 .0), c .before .add-row .ensures)
 
 returns : tie.Need-returns Inv-loop μ-loop
 returns c =

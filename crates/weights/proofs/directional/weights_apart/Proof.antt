@@ -15,10 +15,10 @@ use Rattle.weights.proofs.directional.weights_apart.Statement.{statemen
 use Rattle.weights.proofs.directional.weights_apart.Tie as tie
 
 abbrev Inv-loop : tie.InvT-loop
-Inv-loop px py n s total t w₀ i₀ w i = (i ≤ n) × (length w ≡ 10) × ((k : ℕ) → k < i → getD w k nan ≡ productF (getD s k nan) (getD t k nan) total)
+Inv-loop n s total t w₀ i₀ w i = (i ≤ n) × (length w ≡ 10) × ((k : ℕ) → k < i → getD w k nan ≡ productF (getD s k nan) (getD t k nan) total)
 
 abbrev μ-loop : tie.MeasureT-loop
-μ-loop px py n s total t w₀ i₀ w i = n - i
+μ-loop n s total t w₀ i₀ w i = n - i
 
 factors-requires : tie.Need-factors-requires Inv-loop μ-loop
 factors-requires c κs = c .pre .0 .size
@@ -29,7 +29,7 @@ sum-of-requires c κs = search needs
 terms-requires : tie.Need-terms-requires Inv-loop μ-loop
 terms-requires c κs =
     let f = c .before .before .before in
-    (f .before .pre .0, f .factors .ensures (f .before .args .px) (f .before .args .py))
+    (f .before .pre .0, f .factors .ensures)
 
 loop-holds : tie.Need-loop-holds Inv-loop μ-loop
 loop-holds c = (omega arith, search needs, λ k h. absurd (not-suc-le-zero h))
@@ -73,8 +73,8 @@ returns c =
     let u = t .before .before in
     let f = u .before .before in
     let a = f .before .args in
-    let h = seen (a .px) (a .py) (a .c) in
-    let s = f .factors .ensures (a .px) (a .py) in
+    let h = seen (a .c) in
+    let s = f .factors .ensures in
     let total = u .sum-of .ensures ∙ sumF-same _ (λ k. factorF (h .influence k)) (a .c .count) s in
     λ i l. weight-is h i (f .before .pre .1) (c .before .loop .inv .2 i (omega arith)) (s i l) (t .terms .ensures i l) total
 

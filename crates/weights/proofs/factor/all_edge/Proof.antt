@@ -47,7 +47,7 @@ returns c =
     let a = m .before .before .args .c in
     let f = influences (a .few) (a .radius) (a .items) in
     let e = edge-read (f (m .loop .i)) (c .before .is-edge .ensures) (c .before .before .influence-at .ensures) in
-    λ px py. sym (not-edges f (a .count) (m .loop .i) (omega arith) (sym e ∙ not-true _ (c .if1 .taken)))
+    sym (not-edges f (a .count) (m .loop .i) (omega arith) (sym e ∙ not-true _ (c .if1 .taken)))
 
 add-i : tie.Need-add-i Inv-loop μ-loop
 add-i c = omega arith
@@ -68,7 +68,7 @@ unfolding seen
 returns-2 c =
     let a = c .before .before .before .args .c in
     let e : c .before .loop .i ≡ a .count = omega arith in
-    λ px py. sym (rw e at (c .before .loop .inv .1))
+    sym (rw e at (c .before .loop .inv .1))
 
 pub all-edge-spec : {M : Type 1} → statement M
 all-edge-spec =

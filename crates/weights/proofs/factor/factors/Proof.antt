@@ -61,7 +61,7 @@ loop-again c =
 
 returns : tie.Need-returns Inv-loop μ-loop
 unfolding seen
-returns c = λ px py i h. c .before .loop .inv .2 i (omega arith)
+returns c = λ i h. c .before .loop .inv .2 i (omega arith)
 
 pub factors-spec : {M : Type 1} → statement M
 factors-spec =

@@ -1,0 +1,47 @@
+"""What an accepted call gives: the numbers of its reply, and what it fills of what was lent."""
+
+from __future__ import annotations
+
+from typing import NamedTuple
+
+# A number, a record of numbers, or a run of bytes, each of them a lent unit.
+Unit = int | str | bytes | tuple[int, ...]
+
+
+class Choice(NamedTuple):
+    """What document 01 leaves free: any of the options may come. No option opens another."""
+
+    options: tuple[Unit, ...]
+    preferred: Unit
+
+
+class Outcome(NamedTuple):
+    """`numbers` follow the reply's word; `filled` is the start of what was lent."""
+
+    numbers: tuple[Unit | Choice, ...] = ()
+    filled: tuple[Unit | Choice, ...] = ()
+
+
+ACCEPTED = Outcome()
+
+
+def options(each: Unit | Choice) -> tuple[Unit, ...]:
+    return each.options if isinstance(each, Choice) else (each,)
+
+
+def preferred(each: Unit | Choice) -> Unit:
+    return each.preferred if isinstance(each, Choice) else each
+
+
+def text(unit: Unit) -> str:
+    """A unit as replies and lent lines show it."""
+    if isinstance(unit, bytes):
+        return unit.hex()
+    if isinstance(unit, tuple):
+        return ",".join(map(str, unit))
+    return str(unit)
+
+
+def lent_units(unit: Unit) -> int:
+    """How many lent units a unit takes."""
+    return len(unit) if isinstance(unit, bytes) else 1

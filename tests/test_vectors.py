@@ -1,0 +1,153 @@
+"""Shows that the table of document 01's rows holds, and that its runner fails where it must."""
+
+from __future__ import annotations
+
+import contextlib
+import io
+import sys
+import tempfile
+import unittest
+from collections.abc import Sequence
+from pathlib import Path
+from unittest import mock
+
+import stand_ins
+import vector_rows
+import vectors
+from programs import Run
+
+FAKES = str(Path(__file__).with_name("fakes.py"))
+FEWEST_ROWS = 341
+TWO = "two points\nadd 3 0 0: ok\nadd 6 0 90: ok\n"
+LOOKUP = "lookup 0 0: found 4608 2 0\n"
+
+
+def by_stand_in(command: Sequence[str], data: bytes) -> Run:
+    return Run(stand_ins.replay(data), "")
+
+
+@mock.patch.object(vectors, "run_program", by_stand_in)
+class Table(unittest.TestCase):
+    def setUp(self) -> None:
+        self.text = vectors.TABLE.read_text(encoding="utf-8")
+
+    def test_is_what_the_exact_fraction_program_gives(self) -> None:
+        self.assertEqual(vectors.differences(self.text, []), [])
+        self.assertGreaterEqual(vectors.count_rows(self.text), FEWEST_ROWS)
+
+    def test_every_line_is_held_to(self) -> None:
+        """With each line's end altered, each line is told, the indented ones too."""
+        altered = []
+        lines = 0
+        for before, line in zip(["", *self.text.split("\n")], self.text.split("\n")):
+            row = bool(line and before) and not line.startswith("#")
+            lines += row
+            altered.append(line + "0" if row else line)
+        self.assertEqual(len(vectors.differences("\n".join(altered), [])), lines)
+
+
+@mock.patch.object(vectors, "run_program", by_stand_in)
+class Rows(unittest.TestCase):
+    def assert_wrong(self, rows: str, expected: str) -> None:
+        found = vectors.differences(TWO + rows, [])
+        self.assertEqual(len(found), 1, found)
+        self.assertIn(expected, found[0])
+
+    def test_right(self) -> None:
+        rows = LOOKUP + "lookup with neighbours 0 0: found 4608 2 0\n"
+        rows += "  neighbour 3 0 0: distance 768 kind 1\n"
+        rows += "  neighbour 6 0 90: distance 1536 kind 1\n"
+        self.assertEqual(vectors.differences(TWO + rows, []), [])
+        self.assertEqual(vectors.differences(TWO + "\nthen more\n" + rows, []), [])
+
+    def test_wrong_right_side(self) -> None:
+        self.assert_wrong("lookup 0 0: found 4607 2 0\n", "line 4: expected lookup 0 0: found 4607")
+        self.assert_wrong("add 3 0 0: ok\n", "came add 3 0 0: refused 3")
+        self.assert_wrong("write into 3: refused 8, bytes a5a500\n", "came write into 3: refused 8")
+        self.assert_wrong("add 2 0 0 to 4 0 0: ok\n", "refused 3")
+
+    def test_wrong_neighbours(self) -> None:
+        row = "lookup with neighbours 3 0: found 0 1 0\n"
+        self.assert_wrong(row, "came   neighbour 3 0 0: distance 0 kind 0")
+        right = row + "  neighbour 3 0 0: distance 0 kind 0\n"
+        self.assert_wrong(right + "  neighbour 6 0 90: distance 768 kind 1\n", "came no line")
+
+    def test_another_survey(self) -> None:
+        """A section without "then" starts from a fresh survey."""
+        self.assert_wrong("\nanother\n" + LOOKUP, "came lookup 0 0: refused 6")
+
+    def test_unreadable_left_sides(self) -> None:
+        wrong = (
+            "ad 1 2 3",
+            "add 1 2",
+            "add 1 2 3 4",
+            "add 1 2 x",
+            "add 1 2 4294967296",
+            "add 1 2 3 to 9 3 3",
+            "clear 5",
+            "load",
+            "load 0g",
+            "load 123",
+            "load 1,2,300",
+            "load 1,2,3..9,3,3",
+            "write",
+            "write 5",
+            "write into 65537",
+            "write into",
+            "lookup with neighbours 0 0 into 33",
+            "grid 0 0 1 1 1 into 2",
+        )
+        for left in wrong:
+            with self.subTest(left=left):
+                self.assert_wrong(f"{left}: ok\n", f"line 4: {left}: ok: ")
+        self.assert_wrong("lookup 1 1\n", "no colon")
+        self.assertIn("no row above", vectors.differences("heading\n  neighbour\n", [])[0])
+
+    def test_a_program_that_writes_too_little_or_too_much(self) -> None:
+        with mock.patch.object(vectors, "run_program", lambda *_: Run(b"ok\n", "")):
+            self.assertIn("came add 6 0 90: nothing", vectors.differences(TWO, [])[0])
+        with mock.patch.object(vectors, "run_program", lambda *_: Run(b"ok\nok", "")):
+            self.assertEqual(len(vectors.differences(TWO, [])), 2)
+        with mock.patch.object(vectors, "run_program", lambda *_: Run(b"ok\nok\nok\n", "")):
+            self.assertEqual(vectors.differences(TWO, []), ["after line 3: came 'ok\\n'"])
+        with mock.patch.object(vectors, "run_program", lambda *_: Run(b"ok\nok\n", "; trouble")):
+            self.assertEqual(vectors.differences(TWO, []), ["lines 2 to 3; trouble"])
+
+
+class Files(unittest.TestCase):
+    def test_parts(self) -> None:
+        call = vector_rows.calls_of("load 2*00 ff 1,2,-3 4,5,6..6,5,6 0c0d, two bytes: and more")[0]
+        records = "0001 0002 fd 0004 0005 06 0005 0005 06 0006 0005 06"
+        self.assertEqual(call.file, bytes.fromhex("0000 ff" + records + "0c0d"))
+
+
+class CommandLine(unittest.TestCase):
+    def run_main(self, fault: str, table: str) -> tuple[int, str]:
+        """The exit status and the output on a table, with a program that has a fault or none."""
+        output = io.StringIO()
+        with tempfile.TemporaryDirectory() as folder:
+            program, rows = Path(folder, "replay"), Path(folder, "rows")
+            program.write_text(f"#!/bin/sh\nexec '{sys.executable}' '{FAKES}' replay {fault}\n")
+            program.chmod(0o700)
+            rows.write_text(table)
+            with contextlib.redirect_stdout(output), mock.patch.object(vectors, "TABLE", rows):
+                status = vectors.main([str(program)])
+        return status, output.getvalue()
+
+    def test_sound(self) -> None:
+        said = "3 rows came as the table has them\n"
+        self.assertEqual(self.run_main("", TWO + LOOKUP), (0, said))
+
+    def test_faulty_program(self) -> None:
+        status, text = self.run_main("--fault 'answer plus one'", TWO + LOOKUP)
+        self.assertEqual(status, 1)
+        self.assertIn("came lookup 0 0: found 4609 2 0", text)
+
+    def test_unreadable(self) -> None:
+        status, text = self.run_main("", TWO + "look 0 0: found 4608 2 0\n")
+        self.assertEqual(status, 1)
+        self.assertIn("line 4: look 0 0: found 4608 2 0: no call has this name", text)
+
+
+if __name__ == "__main__":
+    unittest.main()
