@@ -1,6 +1,7 @@
 /* The proved library beside the plain C reference, in one process: whether they agree, and how long each takes.
  *
  *   bench agree SURVEYS    random surveys: the same answer, count and radius from each, at 256 locations of each survey
+ *   bench repeat POINTS N  4,096 random lookups of the library in a random survey of so many points, N times; prints nothing
  *   bench time ROUNDS      the table: nanoseconds a lookup, milliseconds a grid of 64 by 64; the best of ROUNDS, the variants in turn
  */
 #include "reference.h"
@@ -43,6 +44,7 @@ static void survey_draw(Survey *s, int n, enum Shape shape) {
         s->z[i] = (int8_t)((int)draw(256) - 128);
     }
     s->count = (uint16_t)n;
+    s->r0 = initial_radius(s);
 }
 
 static unsigned get2(const uint8_t *b) { return (unsigned)b[0] << 8 | b[1]; }
@@ -84,6 +86,11 @@ static void rank_form(const Survey *s, const File *f, const Locations *l, Answer
     for (int i = 0; i < l->count; i++) out[i] = lookup_rank_form(*s, l->x[i], l->y[i]);
 }
 
+static void kept(const Survey *s, const File *f, const Locations *l, Answer *out) {
+    (void)f;
+    for (int i = 0; i < l->count; i++) out[i] = lookup_kept(*s, l->x[i], l->y[i]);
+}
+
 /* The library reads the file once and answers every location. */
 static void proved(const Survey *s, const File *f, const Locations *l, Answer *out) {
     (void)s;
@@ -119,7 +126,7 @@ static void draw_locations(Locations *l, int n, uint32_t below) {
 }
 
 static int agree(int surveys) {
-    static Answer a[LOCATIONS], b[LOCATIONS], c[LOCATIONS];
+    static Answer a[LOCATIONS], b[LOCATIONS], c[LOCATIONS], d[LOCATIONS];
     static Locations l;
     long lookups = 0, differing = 0;
     seed = 1;
@@ -131,12 +138,27 @@ static int agree(int surveys) {
         draw_locations(&l, 256, i % 3 == TIGHT ? 40 : DOMAIN);
         form(&s, &f, &l, a);
         rank_form(&s, &f, &l, b);
-        proved(&s, &f, &l, c);
+        kept(&s, &f, &l, c);
+        proved(&s, &f, &l, d);
         for (int j = 0; j < l.count; j++, lookups++)
-            differing += memcmp(&a[j], &b[j], sizeof *a) != 0 || memcmp(&a[j], &c[j], sizeof *a) != 0;
+            differing += memcmp(&a[j], &b[j], sizeof *a) != 0 || memcmp(&a[j], &c[j], sizeof *a) != 0 || memcmp(&a[j], &d[j], sizeof *a) != 0;
     }
     printf("agree: %ld lookups, %ld differ\n", lookups, differing);
     return differing != 0;
+}
+
+/* For a profiler: what one more repetition takes is what 4,096 lookups take, the file read once among them. */
+static int repeat(int points, int times) {
+    static Answer out[LOCATIONS];
+    static Locations l;
+    Survey s;
+    File f;
+    seed = 3;
+    survey_draw(&s, points, UNIFORM);
+    file_of(&s, &f);
+    draw_locations(&l, LOCATIONS, DOMAIN);
+    for (int i = 0; i < times; i++) proved(&s, &f, &l, out);
+    return 0;
 }
 
 /* The process's own time, since the machine may be shared. */
@@ -146,7 +168,7 @@ static double now(void) {
     return 1e9 * (double)t.tv_sec + (double)t.tv_nsec;
 }
 
-enum { CASES = 8, VARIANTS = 3 };
+enum { CASES = 8, VARIANTS = 4 };
 
 static void best(double *least, double began) {
     double t = now() - began;
@@ -154,17 +176,24 @@ static void best(double *least, double began) {
 }
 
 static void print_row(const char *name, double times[CASES][VARIANTS], int v) {
-    printf("%-22s", name);
+    printf("%-36s", name);
     for (int c = 0; c < CASES; c++) printf("%s%8.0f", c == 4 ? "  " : "", times[c][v] / LOCATIONS);
     printf("\n");
 }
 
 static double lesser(double a, double b) { return a < b ? a : b; }
 
+/* Proved over the lesser of v and w. */
+static void print_ratios(const char *name, double times[CASES][VARIANTS], int v, int w) {
+    printf("%-36s", name);
+    for (int c = 0; c < CASES; c++) printf("%s%8.2f", c == 4 ? "  " : "", times[c][3] / lesser(times[c][v], times[c][w]));
+    printf("\n");
+}
+
 static void times(int rounds) {
     static const int counts[] = {5, 50, 200, 256};
-    static Lookups *const variants[VARIANTS] = {form, rank_form, proved};
-    static double least[CASES][VARIANTS], grid[2][2];
+    static Lookups *const variants[VARIANTS] = {form, rank_form, kept, proved};
+    static double least[CASES][VARIANTS], grid[2][3];
     static Survey surveys[CASES];
     static File files[CASES];
     static Locations random, square;
@@ -175,7 +204,7 @@ static void times(int rounds) {
         file_of(&surveys[c], &files[c]);
         for (int v = 0; v < VARIANTS; v++) least[c][v] = 1e18;
     }
-    for (int i = 0; i < 2; i++) grid[i][0] = grid[i][1] = 1e18;
+    for (int i = 0; i < 2; i++) grid[i][0] = grid[i][1] = grid[i][2] = 1e18;
     draw_locations(&random, LOCATIONS, DOMAIN);
     grid_locations(&square);
     for (int r = 0; r < rounds; r++) {
@@ -190,26 +219,33 @@ static void times(int rounds) {
             rank_form(&surveys[2 + 4 * i], &files[2 + 4 * i], &square, out);
             best(&grid[i][0], began);
             began = now();
-            proved_grid(&files[2 + 4 * i]);
+            kept(&surveys[2 + 4 * i], &files[2 + 4 * i], &square, out);
             best(&grid[i][1], began);
+            began = now();
+            proved_grid(&files[2 + 4 * i]);
+            best(&grid[i][2], began);
         }
     }
-    printf("ns a lookup; points: %7d%8d%8d%8d  %8d%8d%8d%8d\n", 5, 50, 200, 256, 5, 50, 200, 256);
-    printf("%-22s%8s%26s%8s\n", "", "uniform", "", "diagonal");
+    printf("%-36s%8d%8d%8d%8d  %8d%8d%8d%8d\n", "ns a lookup; points:", 5, 50, 200, 256, 5, 50, 200, 256);
+    printf("%-36s%8s%26s%8s\n", "", "uniform", "", "diagonal");
     print_row("form", least, 0);
     print_row("rank-form", least, 1);
-    print_row("proved", least, 2);
-    printf("%-22s", "proved / the lesser");
-    for (int c = 0; c < CASES; c++) printf("%s%8.2f", c == 4 ? "  " : "", least[c][2] / lesser(least[c][0], least[c][1]));
-    printf("\n\nms a grid of 64 by 64, 200 points    uniform  diagonal\n");
+    print_row("kept", least, 2);
+    print_row("proved", least, 3);
+    print_ratios("proved / lesser of form, rank-form", least, 0, 1);
+    print_ratios("proved / kept", least, 2, 2);
+    printf("\nms a grid of 64 by 64, 200 points    uniform  diagonal\n");
     printf("rank-form                           %8.2f  %8.2f\n", grid[0][0] / 1e6, grid[1][0] / 1e6);
-    printf("proved, as a grid file              %8.2f  %8.2f\n", grid[0][1] / 1e6, grid[1][1] / 1e6);
-    printf("proved / rank-form                  %8.2f  %8.2f\n", grid[0][1] / grid[0][0], grid[1][1] / grid[1][0]);
+    printf("kept                                %8.2f  %8.2f\n", grid[0][1] / 1e6, grid[1][1] / 1e6);
+    printf("proved, as a grid file              %8.2f  %8.2f\n", grid[0][2] / 1e6, grid[1][2] / 1e6);
+    printf("proved / rank-form                  %8.2f  %8.2f\n", grid[0][2] / grid[0][0], grid[1][2] / grid[1][0]);
+    printf("proved / kept                       %8.2f  %8.2f\n", grid[0][2] / grid[0][1], grid[1][2] / grid[1][1]);
 }
 
 int main(int argc, char **argv) {
     if (argc == 3 && strcmp(argv[1], "agree") == 0) return agree(atoi(argv[2]));
+    if (argc == 4 && strcmp(argv[1], "repeat") == 0) return repeat(atoi(argv[2]), atoi(argv[3]));
     if (argc == 3 && strcmp(argv[1], "time") == 0) return times(atoi(argv[2])), 0;
-    fprintf(stderr, "usage: bench agree SURVEYS | time ROUNDS\n");
+    fprintf(stderr, "usage: bench agree SURVEYS | repeat POINTS N | time ROUNDS\n");
     return 2;
 }

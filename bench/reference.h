@@ -2,7 +2,9 @@
  *
  * "form" has the shape that document 01 asks of the library: the survey by value, R0 at each lookup, the root bit by bit; one pass keeps the
  * nearest eleven in a sorted buffer. "rank-form" is the same shape with the selection that was found fastest: squares to an array,
- * the points within a limit gathered without a branch, each then put where its rank says. Distances and radii are in 256ths of a step. */
+ * the points within a limit gathered without a branch, each then put where its rank says. "kept" is rank-form with R0 in the survey, worked
+ * out once when the survey is made. The other two copy that field with the survey and do not read it; it makes the struct a multiple of 8
+ * bytes, so that each of an array is copied from an aligned address, which is faster. Distances and radii are in 256ths of a step. */
 #ifndef REFERENCE_H
 #define REFERENCE_H
 
@@ -12,20 +14,21 @@
 
 #define INLINE static inline __attribute__((always_inline))
 
-enum { DOMAIN = 4096, MAX_POINTS = 256, FEW = 4, MOST = 10, KEPT = 11, MAX_SIDE = 64 };
+enum { DOMAIN = 4096, MAX_POINTS = 256, FEW = 4, MOST = 10, HELD = 11, MAX_SIDE = 64 };
 enum { FAR_AWAY = 0x7fffffff };
 
-/* Points by ascending x, then y. */
+/* Points by ascending x, then y; R0 of them for lookup_kept, set by whoever makes the survey. */
 typedef struct {
     uint16_t x[MAX_POINTS], y[MAX_POINTS];
     int8_t z[MAX_POINTS];
     uint16_t count;
+    uint32_t r0;
 } Survey;
 
 typedef struct { int16_t answer; uint16_t count; uint32_t radius; } Answer;
 
 /* The nearest points in order: squared distance, then index in the survey, ascend. */
-typedef struct { int32_t squared[KEPT + 1], at[KEPT + 1]; int count; } Nearest;
+typedef struct { int32_t squared[HELD + 1], at[HELD + 1]; int count; } Nearest;
 
 /* One bit at a time, with no division and no branch; gcc would make one of a plain `if`. */
 INLINE uint32_t root(uint64_t n) {
@@ -65,7 +68,7 @@ INLINE int32_t squared_at(const Survey *s, int i, int px, int py) {
 
 /* Points come in the survey's order, so an equal one goes behind those that are there. */
 INLINE void insert(Nearest *k, int32_t squared, int at) {
-    int i = k->count < KEPT ? k->count++ : KEPT - 1;
+    int i = k->count < HELD ? k->count++ : HELD - 1;
     for (; i > 0 && k->squared[i - 1] > squared; i--) {
         k->squared[i] = k->squared[i - 1];
         k->at[i] = k->at[i - 1];
@@ -77,10 +80,10 @@ INLINE void insert(Nearest *k, int32_t squared, int at) {
 /* One pass, one sorted buffer. */
 INLINE void select_pass(const Survey *s, int px, int py, Nearest *k) {
     k->count = 0;
-    for (int i = 0; i <= KEPT; i++) k->squared[i] = FAR_AWAY;
+    for (int i = 0; i <= HELD; i++) k->squared[i] = FAR_AWAY;
     for (int i = 0, n = s->count; i < n; i++) {
         int32_t squared = squared_at(s, i, px, py);
-        if (squared < k->squared[KEPT - 1]) insert(k, squared, i);
+        if (squared < k->squared[HELD - 1]) insert(k, squared, i);
     }
 }
 
@@ -103,7 +106,7 @@ INLINE void select_rank(const Survey *s, int px, int py, int32_t reach, Nearest 
 
     int32_t low = 0, high = FAR_AWAY - 1, limit = reach;
     int found = count_within(squares, full, limit), tries = 0;
-    while (found > CANDIDATES || (found < (limit < reach ? KEPT : FEW + 1) && found < n)) {
+    while (found > CANDIDATES || (found < (limit < reach ? HELD : FEW + 1) && found < n)) {
         if (++tries > 12) { select_pass(s, px, py, k); return; }
         if (found > CANDIDATES) high = limit; else low = limit;
         int64_t guess = found > CANDIDATES ? (int64_t)limit * 10 / found : 2 * (int64_t)limit + 1;
@@ -125,7 +128,7 @@ INLINE void select_rank(const Survey *s, int px, int py, int32_t reach, Nearest 
         by_rank[rank] = near[i];
         at_rank[rank] = at[i];
     }
-    k->count = found < KEPT ? found : KEPT;
+    k->count = found < HELD ? found : HELD;
     for (int i = 0; i < k->count; i++) {
         k->squared[i] = by_rank[i];
         k->at[i] = at_rank[i];
@@ -137,8 +140,8 @@ INLINE Answer weigh(const Survey *s, int px, int py, uint32_t r0, int32_t reach,
     int within = 0;
     while (within < k->count && k->squared[within] <= reach) within++;
     int few = s->count <= FEW;
-    int n = few ? s->count : within <= FEW ? FEW : within >= KEPT ? MOST : within;
-    uint32_t radius = few ? 0 : within > FEW && within < KEPT ? r0 : distance(k->squared[n]);
+    int n = few ? s->count : within <= FEW ? FEW : within >= HELD ? MOST : within;
+    uint32_t radius = few ? 0 : within > FEW && within < HELD ? r0 : distance(k->squared[n]);
 
     double D[MOST] = {0}, X[MOST] = {0}, Y[MOST] = {0}, factor[MOST], over[MOST], turn[MOST] = {0};
     double R = (double)(int32_t)radius, taper = few ? 0.0 : 27.0 / (4.0 * R * R * R), total = 0.0;
@@ -188,5 +191,11 @@ __attribute__((noinline)) static Answer lookup_rank_form(Survey s, int px, int p
     uint32_t r0 = initial_radius(&s);
     select_rank(&s, px, py, reach_of(r0), &k);
     return weigh(&s, px, py, r0, reach_of(r0), &k);
+}
+
+__attribute__((noinline)) static Answer lookup_kept(Survey s, int px, int py) {
+    Nearest k;
+    select_rank(&s, px, py, reach_of(s.r0), &k);
+    return weigh(&s, px, py, s.r0, reach_of(s.r0), &k);
 }
 #endif

@@ -1,4 +1,4 @@
-"""Holds what a program wrote to what document 01 permits, and counts what was compared."""
+"""Holds what a program wrote to what documents 01 and 02 permit, and counts what was compared."""
 
 from __future__ import annotations
 

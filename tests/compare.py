@@ -1,4 +1,4 @@
-"""Compares shepard_grid and shepard_replay with what document 01 permits."""
+"""Compares shepard_grid and shepard_replay with what documents 01 and 02 permit."""
 
 from __future__ import annotations
 
@@ -26,12 +26,13 @@ SEED = 1968
 LEAST = 200
 MINIMA = {
     "lookups": 20_000,
+    "ends": 2_000,
     "damaged files": 2_000,
     "damaged grid inputs": 300,
     "call lists": 300,
     "grid cells": 10_000,
-    **{each.counted: LEAST for each in operations.TABLE if each.counted not in ("", "lookups")},
 }
+MINIMA |= {each.counted: LEAST for each in operations.TABLE if each.counted not in ("", *MINIMA)}
 
 Command = Sequence[str]
 

@@ -1,4 +1,4 @@
-"""Works out in whole numbers and fractions, from document 01 alone, what each lookup must give."""
+"""Works out in whole numbers and fractions, from documents 01 and 02 alone, lookups and ends."""
 
 from __future__ import annotations
 
@@ -32,6 +32,18 @@ class Point(NamedTuple):
     z: int
 
 
+class Ends(NamedTuple):
+    """The rectangle around a survey's points, their least and greatest value, and R0."""
+
+    least_x: int
+    greatest_x: int
+    least_y: int
+    greatest_y: int
+    least_z: int
+    greatest_z: int
+    initial_radius: int
+
+
 class Neighbour(NamedTuple):
     x: int
     y: int
@@ -63,16 +75,27 @@ def distance(squared: int) -> int:
     return isqrt(65_536 * squared)
 
 
+def extent(points: Sequence[Point]) -> list[int]:
+    """The least and the greatest x, then those of y, then those of z."""
+    return [end(axis) for axis in zip(*points) for end in (min, max)]
+
+
 def area(points: Sequence[Point]) -> int:
     """The area of the smallest upright rectangle around the points."""
-    xs = [point.x for point in points]
-    ys = [point.y for point in points]
-    return (max(xs) - min(xs)) * (max(ys) - min(ys))
+    left, right, low, high, *_ = extent(points)
+    return (right - left) * (high - low)
 
 
 def initial_radius(points: Sequence[Point]) -> int:
     """R0. The root of the whole quotient is the root of the quotient, rounded down."""
     return isqrt(65_536 * 7 * 113 * area(points) // (355 * len(points)))
+
+
+def ends(points: Sequence[Point]) -> Ends:
+    """What a survey holds beside its points: zeros where there are none."""
+    if not points:
+        return Ends(*[0] * len(Ends._fields))
+    return Ends(*extent(points), initial_radius(points))
 
 
 # Who is chosen.

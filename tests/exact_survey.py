@@ -1,4 +1,4 @@
-"""Works out, from document 01 alone, what each survey call and the grid program must give."""
+"""Works out, from documents 01 and 02 alone, what the survey calls and the grid program give."""
 
 from __future__ import annotations
 
@@ -8,7 +8,16 @@ from struct import unpack
 import exact
 import exact_files
 import metric
-from exact import GREATEST_VALUE, LEAST_VALUE, MOST_NEIGHBOURS, MOST_POINTS, Lookup, Point, Refused
+from exact import (
+    GREATEST_VALUE,
+    LEAST_VALUE,
+    MOST_NEIGHBOURS,
+    MOST_POINTS,
+    Ends,
+    Lookup,
+    Point,
+    Refused,
+)
 from exact_files import GREATEST_FILE, GRID_NUMBERS_BYTES, RECORD_BYTES, TRAILER_BYTES, Grid
 from metric import Location
 from outcomes import ACCEPTED, Choice, Outcome
@@ -63,6 +72,7 @@ class Survey:
     def altered(self) -> None:
         """Forget what was worked out from the points before."""
         self.ordered: list[Point] | None = None
+        self.ends: Ends | None = None
         self.lookups: dict[Location, Lookup] = {}
 
     def points(self) -> list[Point]:
@@ -71,13 +81,17 @@ class Survey:
             self.ordered = [Point(x, y, z) for (x, y), z in sorted(self.values.items())]
         return self.ordered
 
+    def exact_ends(self) -> Ends:
+        if self.ends is None:
+            self.ends = exact.ends(self.points())
+        return self.ends
+
     def exact_lookup(self, x: int, y: int) -> Lookup:
         check_location(x, y)
         self.check_any()
         if (x, y) not in self.lookups:
-            points = self.points()
-            initial = exact.initial_radius(points)
-            self.lookups[x, y] = exact.look_up(points, initial, (x, y), self.metric)
+            initial = self.exact_ends().initial_radius
+            self.lookups[x, y] = exact.look_up(self.points(), initial, (x, y), self.metric)
         return self.lookups[x, y]
 
     def exact_cells(self, grid: Grid) -> list[Lookup]:
@@ -154,6 +168,9 @@ class Survey:
         check_lent(lent, length)
         cells = map(answer_bytes, self.exact_cells(grid))
         return Outcome((length,), (*cells, exact_files.grid_trailer(grid)))
+
+    def read_ends(self) -> Outcome:
+        return Outcome(self.exact_ends())
 
 
 def grid_program(data: bytes) -> Outcome:

@@ -7,6 +7,7 @@ from fractions import Fraction
 from random import Random
 
 import bad_journals
+import ends_journals
 import grid_inputs
 import journals
 import mixed_calls
@@ -22,6 +23,7 @@ JOURNALS = (
     ("examples", journals.example_journal, 2),
     ("lookups", journals.lookup_journal, 400),
     ("mixed calls", mixed_calls.mixed_journal, 128),
+    ("ends", ends_journals.ends_journal, 72),
     ("full survey", journals.full_journal, 10),
     ("damaged files", journals.damaged_journal, 105),
     ("grids", journals.grid_journal, 70),

@@ -13,7 +13,7 @@ from exact import Point
 from grids import full_side, grid_near, grid_of, improper_grid, proper_grid
 from operations import BYTES, CELLS
 from protocol import Call
-from random_calls import ANY_GRID, ANY_SURVEY, entry, grid_calls, lookup_calls
+from random_calls import ANY_GRID, ANY_SURVEY, entry, grid_calls, lookup_calls, with_ends
 
 
 class Journal(NamedTuple):
@@ -88,13 +88,14 @@ def full_journal(rng: Random, index: int) -> list[Call]:
     written = [Call("w", (lent,)) for lent in (ANY_SURVEY - 1, ANY_SURVEY, ANY_SURVEY + 1)]
     looked = lambda: lookup_calls(rng, points, [points[255][:2], points[256][:2]], 6)
     calls = [Call("a", point) for point in points[:255]] + looked() + written
-    calls += [Call("a", points[255])] + looked() + [Call("a", points[256])] + looked() + written
-    calls += refused_adds(rng, points[:256]) + looked()
-    calls += [Call("d", dropped[:2]), Call("a", points[256]), Call("a", dropped)]
-    calls += looked() + written + [Call("k"), Call("q", (5, 5))]
-    calls.append(protocol.load(damage.sound_file(rng, points[:256])))
-    calls.append(protocol.load(damage.sound_file(rng, points), True))
-    return calls + written + looked() + refused_adds(rng, points[:256])
+    calls += with_ends([Call("a", points[255])]) + looked()
+    calls += with_ends([Call("a", points[256])]) + looked() + written
+    calls += with_ends(refused_adds(rng, points[:256])) + looked()
+    calls += with_ends([Call("d", dropped[:2]), Call("a", points[256]), Call("a", dropped)])
+    calls += looked() + written + with_ends([Call("k"), Call("q", (5, 5))])
+    calls += with_ends([protocol.load(damage.sound_file(rng, points[:256]))])
+    calls += with_ends([protocol.load(damage.sound_file(rng, points), True)])
+    return calls + written + looked() + with_ends(refused_adds(rng, points[:256]))
 
 
 # Damaged files.
@@ -105,6 +106,7 @@ def shown(rng: Random, points: Sequence[Point]) -> Call:
     return rng.choice(
         (
             Call("w", (ANY_SURVEY,)),
+            Call("e"),
             Call("q", surveys.location_near(rng, points)),
             Call("n", (*surveys.location_near(rng, points), 10)),
         )
@@ -141,7 +143,7 @@ def example_journal(rng: Random, index: int) -> list[Call]:
     calls = []
     for points, location in EXAMPLES:
         calls += [Call("a", point) for point in rng.sample(points, len(points))]
-        calls += [Call("q", location), Call("n", (*location, 10)), Call("k")]
+        calls += with_ends([Call("q", location), Call("n", (*location, 10)), Call("k")])
     calls += [Call("n", (0, 0, 9)), Call("n", (4096, 0, 0)), Call("w", (11,)), Call("w", (12,))]
     calls += [Call("a", point) for point in ((4095, 0, 127), (4096, 0, 127), (0, 4096, 128))]
     calls += [Call("a", (1, 1, z)) for z in (128, -129, -128)]

@@ -87,6 +87,10 @@ def mixed_grid(rng: Random, scene: Scene) -> Call:
     return grid_calls(rng, numbers)[0]
 
 
+def mixed_ends(rng: Random, scene: Scene) -> Call:
+    return Call("e")
+
+
 class Generator(NamedTuple):
     """How often a call comes, what makes it, and whether only every other list has it."""
 
@@ -105,6 +109,7 @@ GENERATORS = {
     "n": Generator(3, mixed_lookup),
     "g": Generator(1, mixed_grid),
     "f": Generator(1, mixed_grid),
+    "e": Generator(4, mixed_ends),
     "k": Generator(1, mixed_clear, seldom=True),
 }
 

@@ -1,7 +1,8 @@
 """The calls of a shepard_replay journal, a row for each: all that is told of a call by its letter.
 
 A further call is a row here, a method of the exact survey that bears its name, and a row of
-mixed_calls.GENERATORS, which test_operations.py asks for; then faults of its own.
+mixed_calls.GENERATORS, which test_operations.py asks for; rows of vectors.txt and a place in the
+stored journal, which test_vectors.py and test_stored.py ask for; then faults of its own.
 """
 
 from __future__ import annotations
@@ -80,5 +81,6 @@ TABLE = (
     Operation("n", "lookup with neighbours", (X, Y), "found", RECORDS, counted="lookups"),
     Operation("g", "grid", (SIX,), "cells", CELLS, counted="grids"),
     Operation("f", "grid file", (SIX,), "wrote", BYTES, counted="grid files"),
+    Operation("e", "read ends", (), "ends", counted="ends"),
 )
 BY_LETTER = {operation.letter: operation for operation in TABLE}

@@ -1,4 +1,4 @@
-"""Gives the texts that document 01 permits as the reply to a call, and holds a text to them."""
+"""Gives the texts that documents 01 and 02 permit as a call's reply, and holds a text to them."""
 
 from __future__ import annotations
 

@@ -39,6 +39,11 @@ def lookup_calls(
     return calls
 
 
+def with_ends(calls: Iterable[Call]) -> list[Call]:
+    """Each call, and the ends read after it."""
+    return [each for call in calls for each in (call, Call("e"))]
+
+
 def entry(rng: Random, points: Sequence[Point]) -> list[Call]:
     """Calls after which the points are present, straight or by detours."""
     if rng.randrange(4) == 0:

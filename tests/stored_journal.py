@@ -14,6 +14,7 @@ import damage
 import journals
 import protocol
 from protocol import Call
+from random_calls import with_ends
 
 GRID = (0, 0, 1, 1, 2, 1)
 PAIR = damage.records_of([(3, 0, 0), (6, 0, 90)])
@@ -94,8 +95,20 @@ def grids() -> list[Call]:
     return calls + calls_of("g", (4094, 4095, 1, 9, 2, 1, 2))
 
 
+def ends() -> list[Call]:
+    """The ends after each call: of none to four points, of refused calls, of all that alter."""
+    calls = [Call("k"), *calls_of("a", (0, 0, 5), (4095, 4095, -128), (0, 4095, 127), (4095, 0, 1))]
+    calls += [Call("a", (4096, 0, 0)), Call("a", (5, 5, 128)), Call("a", (0, 0, -9))]
+    calls += calls_of("c", (4095, 4095, 6), (0, 4095, 2), (0, 4096, 0), (0, 0, -129), (9, 9, -9))
+    calls += calls_of("d", (4096, 0), (0, 4095), (0, 4095), (4095, 4095), (4095, 0), (0, 0))
+    calls += loads(damage.assemble(b"", FULL), bytes(12), b"")
+    calls += calls_of("a", (1, 1, 1), (16, 15, 1)) + calls_of("d", (4080, 3825), (0, 0))
+    calls += loads(damage.assemble(b"", PAIR), damage.assemble(b"", [], count=257))
+    return with_ends(calls + [Call("q", (6, 0)), Call("k"), *loads(damage.assemble(b"", []))])
+
+
 def make() -> journals.Journal:
-    calls = on_none() + on_two() + files() + on_full() + rows() + grids()
+    calls = [Call("e")] + on_none() + on_two() + files() + on_full() + rows() + grids() + ends()
     return journals.Journal("stored", calls, BAD_END)
 
 

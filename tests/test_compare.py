@@ -15,6 +15,7 @@ import compare
 import exact
 import exact_survey
 import generator
+import operations
 import permitted
 import protocol
 import stand_ins
@@ -28,7 +29,19 @@ FAKES = str(pathlib.Path(__file__).with_name("fakes.py"))
 SOUND_PART, FAULTY_PART = 16, 4
 SECONDS = 20
 SHORT_SECONDS = 2
-FEWEST_FAULTS = 42
+FEWEST_FAULTS = 64
+# What each call can be refused with.
+REFUSALS = {
+    "add": (1, 2, 3, 5),
+    "change": (1, 2, 4),
+    "drop": (1, 4),
+    "load": range(9, 16),
+    "write": (8,),
+    "lookup": (1, 6),
+    "lookup with neighbours": (1, 6, 8),
+    "grid": (7, 6, 8),
+    "grid file": (7, 6, 8),
+}
 
 
 def command(program: str, fault: str | None = None) -> list[str]:
@@ -171,6 +184,54 @@ class Generator(unittest.TestCase):
                 met.update(neighbour.kind for neighbour in lookup.neighbours)
         for rule in ((4, False), (5, True), (10, True), (10, False), 0, 1, 2, 3):
             self.assertGreater(met[rule], 20, rule)
+
+    def test_ends_are_read_after_every_call(self) -> None:
+        """Directly after each call accepted, and after each refused with each of its numbers."""
+        met = Counter()
+        for journal in self.journals:
+            survey, before = exact_survey.Survey(), ""
+            for call in journal.calls:
+                met[before] += call.letter == "e"
+                expected = permitted.expected(survey, call)
+                before = call.operation.name
+                if expected.outcome is None:
+                    before += " " + expected.lines[0][0][0]
+        names = [operation.name for operation in operations.TABLE]
+        names += [f"{name} refused {each}" for name in REFUSALS for each in REFUSALS[name]]
+        for name in names:
+            self.assertGreater(met[name], 0, name)
+
+    def test_lists_of_ends_show_nothing_else(self) -> None:
+        """What they catch is in the ends: no other call that only asks is accepted."""
+        for journal in self.journals:
+            survey = exact_survey.Survey()
+            for call in journal.calls if journal.kind == "ends" else []:
+                accepted = permitted.expected(survey, call).outcome is not None
+                asks = call.letter != "e" and not call.operation.alters
+                self.assertFalse(accepted and asks, protocol.describe(call))
+
+    def test_ends_move_and_stay(self) -> None:
+        """Drops at an edge that another point holds or none does, changes inward, few points."""
+        met = Counter()
+        for journal in self.journals:
+            survey = exact_survey.Survey()
+            for call in journal.calls if journal.kind == "ends" else []:
+                before = survey.exact_ends()
+                accepted = permitted.expected(survey, call).outcome is not None
+                after, present = survey.exact_ends(), len(survey.values)
+                if accepted and call.letter == "d" and present:
+                    x, y = call.numbers
+                    edge = x in before[:2] or y in before[2:4]
+                    met["held" if before[:4] == after[:4] else "given up"] += edge
+                if accepted and call.letter == "c":
+                    met["least up"] += after.least_z > before.least_z
+                    met["greatest down"] += after.greatest_z < before.greatest_z
+                if call.letter == "e":
+                    met[present, after.initial_radius > 0] += 1
+        moved = ("held", "given up", "least up", "greatest down")
+        few = ((0, False), (1, False), (2, True), (3, True), (4, True), (5, True))
+        for what in moved + few:
+            self.assertGreater(met[what], 5, what)
 
 
 if __name__ == "__main__":

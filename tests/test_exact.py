@@ -1,7 +1,8 @@
-"""Holds the exact-fraction program to document 01's own numbers and a second, slower mean."""
+"""Holds the exact-fraction program to the documents' own numbers and a second, slower mean."""
 
 from __future__ import annotations
 
+import contextlib
 import unittest
 from collections.abc import Callable, Iterable, Sequence
 from fractions import Fraction
@@ -14,7 +15,9 @@ import exact_survey
 import grid_inputs
 import journals
 import metric
+import mixed_calls
 import permitted
+import protocol
 import stand_ins
 import surveys
 from exact import Lookup, Neighbour
@@ -172,6 +175,133 @@ class Mean(unittest.TestCase):
         for off, allowed in ((-2, [3]), (-1, [3, 4]), (0, [3, 4]), (1, [3, 4]), (2, [4])):
             lookup = exact.Lookup(Fraction(256 * 3 + 128 + off, 65_536), 0, ends)
             self.assertEqual(answers(lookup), allowed)
+
+
+class InitialRadius(unittest.TestCase):
+    def test_is_the_greatest(self) -> None:
+        """By document 01's inequality, of one point to 256 and of all four corners."""
+        rng = Random(17)
+        made = [surveys.make(rng, kind)[0] for kind in surveys.KINDS]
+        corners = [exact.Point(x, y, 0) for x in (0, 4095) for y in (0, 4095)]
+        for points in [*made, corners, corners[:1], corners[:2], corners[:3], corners[::3]]:
+            wide = max(point.x for point in points) - min(point.x for point in points)
+            high = max(point.y for point in points) - min(point.y for point in points)
+            radius, most = exact.initial_radius(points), 65_536 * 7 * 113 * wide * high
+            self.assertLessEqual(radius**2 * 355 * len(points), most)
+            self.assertGreater((radius + 1) ** 2 * 355 * len(points), most)
+
+
+class Ends(RefusalCase):
+    """Document 02's §1: the rectangle, the least and greatest value, and R0."""
+
+    def assert_ends(self, survey: Survey, *expected: int) -> None:
+        self.assertEqual(survey.read_ends().numbers, expected)
+
+    def assert_zeros(self, survey: Survey) -> None:
+        self.assert_ends(survey, 0, 0, 0, 0, 0, 0, 0)
+
+    def test_no_points(self) -> None:
+        survey = Survey()
+        self.assert_zeros(survey)
+        self.assert_refused(1, survey.add, 4096, 1, 1)
+        self.assert_zeros(survey)
+        survey.add(3, 7, -7)
+        survey.drop(3, 7)
+        self.assert_zeros(survey)
+        survey.add(3, 7, -7)
+        survey.clear()
+        self.assert_zeros(survey)
+        survey.add(3, 7, -7)
+        survey.load(exact_files.survey_file([]))
+        self.assert_zeros(survey)
+
+    def test_one_point(self) -> None:
+        """No area and no R0; one of value 0 in the origin has the ends of no points."""
+        self.assert_ends(survey_of([(3, 7, -7)]), 3, 3, 7, 7, -7, -7, 0)
+        self.assert_ends(survey_of([(4095, 0, 127)]), 4095, 4095, 0, 0, 127, 127, 0)
+        self.assert_zeros(survey_of([(0, 0, 0)]))
+
+    def test_two_to_four_points(self) -> None:
+        """The roots of a half, a third and a quarter of 65,536 × 791 × 4,095² / 355."""
+        survey = survey_of([(0, 0, -128), (4095, 4095, 127)])
+        self.assert_ends(survey, 0, 4095, 0, 4095, -128, 127, 1_106_503)
+        survey.add(0, 4095, 1)
+        self.assert_ends(survey, 0, 4095, 0, 4095, -128, 127, 903_456)
+        survey.add(4095, 0, 2)
+        self.assert_ends(survey, 0, 4095, 0, 4095, -128, 127, 782_416)
+        self.assert_ends(survey_of([(3, 1, 7), (4, 0, 8)]), 3, 4, 0, 1, 7, 8, 270)
+
+    def test_points_on_a_line(self) -> None:
+        for points, _ in journals.EXAMPLES[1:4]:
+            (left, _, low), (right, _, high) = points
+            self.assert_ends(survey_of(points), left, right, 0, 0, low, high, 0)
+
+    def test_five_and_twelve_points(self) -> None:
+        five, twelve = journals.EXAMPLES[4][0], journals.EXAMPLES[5][0]
+        self.assert_ends(survey_of(five), 95, 105, 95, 105, 0, 98, 1708)
+        self.assert_ends(survey_of(twelve), 95, 105, 95, 105, 1, 12, 1103)
+
+    def test_drop_of_a_corner(self) -> None:
+        """Where another point holds the edge it stays, and R0 is of one point fewer."""
+        survey = survey_of([(0, 0, 1), (10, 0, 2), (0, 10, 3), (10, 10, 4), (5, 20, 5)])
+        self.assert_ends(survey, 0, 10, 0, 20, 1, 5, 2416)
+        survey.drop(0, 0)
+        self.assert_ends(survey, 0, 10, 0, 20, 2, 5, 2702)
+        survey.drop(5, 20)
+        self.assert_ends(survey, 0, 10, 0, 10, 2, 4, 2206)
+        survey.drop(10, 0)
+        self.assert_ends(survey, 0, 10, 10, 10, 3, 4, 0)
+
+    def test_change_inward(self) -> None:
+        survey = survey_of([(0, 0, -128), (10, 10, 5), (20, 0, 127)])
+        self.assert_ends(survey, 0, 20, 0, 10, -128, 127, 3120)
+        survey.change(0, 0, 6)
+        self.assert_ends(survey, 0, 20, 0, 10, 5, 127, 3120)
+        survey.change(20, 0, 4)
+        self.assert_ends(survey, 0, 20, 0, 10, 4, 6, 3120)
+
+    def test_refused_calls_keep_them(self) -> None:
+        survey = survey_of([(10, 20, -3), (30, 50, 4), (40, 20, 9)])
+        held = (10, 40, 20, 50, -3, 9, 6618)
+        self.assert_ends(survey, *held)
+        for number, call, arguments in (
+            (1, survey.add, (0, 4096, 100)),
+            (2, survey.add, (0, 0, 128)),
+            (3, survey.add, (30, 50, -100)),
+            (1, survey.change, (4096, 0, -100)),
+            (2, survey.change, (30, 50, -129)),
+            (4, survey.change, (0, 0, -100)),
+            (1, survey.drop, (4096, 20)),
+            (4, survey.drop, (10, 50)),
+            (9, survey.load, (b"",)),
+            (10, survey.load, (bytes(12),)),
+            (8, survey.write, (1,)),
+        ):
+            self.assert_refused(number, call, *arguments)
+            self.assert_ends(survey, *held)
+
+    def test_load_and_full_survey(self) -> None:
+        survey = survey_of([(4095, 4095, 127)])
+        survey.load(exact_files.survey_file([exact.Point(i, i, i - 128) for i in range(256)]))
+        self.assert_ends(survey, 0, 255, 0, 255, -128, 127, 6090)
+        self.assert_refused(5, survey.add, 4095, 4095, 0)
+        self.assert_ends(survey, 0, 255, 0, 255, -128, 127, 6090)
+        survey.drop(255, 255)
+        self.assert_ends(survey, 0, 254, 0, 254, -128, 126, 6078)
+
+    def test_after_every_call(self) -> None:
+        """They are those of a fresh survey to which the same points were added."""
+        rng = Random(19)
+        compared = 0
+        for index in range(len(surveys.KINDS)):
+            survey = Survey()
+            for call in mixed_calls.mixed_journal(rng, index):
+                with contextlib.suppress(exact.Refused):
+                    protocol.perform(survey, call)
+                again = survey_of(reversed(survey.points()))
+                self.assert_ends(survey, *again.read_ends().numbers)
+                compared += 1
+        self.assertGreater(compared, 500)
 
 
 class Files(RefusalCase):

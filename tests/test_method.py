@@ -159,6 +159,27 @@ class Worked(Figures):
             told = [i + 1, *self.points[i], *self.offset(i), squared, isqrt(65_536 * squared)]
             self.assertEqual(numbers(row), told)
 
+    def test_kept(self) -> None:
+        title = "What is kept with the points"
+        _, least, greatest = tables(title)[0]
+        ends = exact.ends(self.points)
+        self.assertEqual(numbers(least[1:]), list(ends[0:6:2]))
+        self.assertEqual(numbers(greatest[1:]), list(ends[1:6:2]))
+        without = re.findall(r"[Ww]ithout (?:the point )?\((\d+), (\d+)\)", prose(title))
+        right, left = (
+            exact.ends([point for point in self.points if point[:2] != (int(x), int(y))])
+            for x, y in without
+        )
+        told = f"the greatest x is {right.greatest_x}, A is 306 and R0 is {right.initial_radius:,}"
+        for sentence in (
+            f"and R0 is {ends.initial_radius:,}.",
+            told,
+            f"the least x is {left.least_x}, while the greatest y stays {left.greatest_y},",
+        ):
+            self.assertIn(sentence, prose(title))
+        self.assertEqual((right.greatest_x - right.least_x) * (right.greatest_y - right.least_y), 306)
+        self.assertEqual(left.greatest_y, ends.greatest_y)
+
     def test_choice(self) -> None:
         self.assertEqual([each[:3] for each in self.chosen], self.points[: len(self.chosen)])
         self.assertEqual(self.lookup.radius, self.initial)

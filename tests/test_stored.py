@@ -1,4 +1,4 @@
-"""Holds the stored tests of the programs to document 01."""
+"""Holds the stored tests of the programs to documents 01 and 02."""
 
 from __future__ import annotations
 
@@ -12,6 +12,7 @@ import exact_survey
 import journals
 import permitted
 import stored_journal
+from operations import BY_LETTER
 from programs import Run
 
 CRATES = Path(__file__).parent.parent / "crates"
@@ -28,6 +29,9 @@ class StoredJournal(unittest.TestCase):
     def test_output_is_permitted(self) -> None:
         run = Run((self.stored / "stdout").read_bytes(), "")
         checks.check_replies(self.journal, run, Counter())
+
+    def test_every_call_is_made(self) -> None:
+        self.assertEqual({call.letter for call in self.journal.calls}, set(BY_LETTER))
 
     def test_every_refusal_is_met(self) -> None:
         replies = (self.stored / "stdout").read_text().split("\n")

@@ -1,4 +1,4 @@
-"""Shows that the table of document 01's rows holds, and that its runner fails where it must."""
+"""Shows that the table of the documents' rows holds, and that its runner fails where it must."""
 
 from __future__ import annotations
 
@@ -14,10 +14,11 @@ from unittest import mock
 import stand_ins
 import vector_rows
 import vectors
+from operations import BY_LETTER
 from programs import Run
 
 FAKES = str(Path(__file__).with_name("fakes.py"))
-FEWEST_ROWS = 341
+FEWEST_ROWS = 516
 TWO = "two points\nadd 3 0 0: ok\nadd 6 0 90: ok\n"
 LOOKUP = "lookup 0 0: found 4608 2 0\n"
 
@@ -34,6 +35,10 @@ class Table(unittest.TestCase):
     def test_is_what_the_exact_fraction_program_gives(self) -> None:
         self.assertEqual(vectors.differences(self.text, []), [])
         self.assertGreaterEqual(vectors.count_rows(self.text), FEWEST_ROWS)
+
+    def test_has_rows_of_every_call(self) -> None:
+        rows = [row for group in vectors.read_table(self.text) for row in group]
+        self.assertEqual({call.letter for row in rows for call in row.calls}, set(BY_LETTER))
 
     def test_every_line_is_held_to(self) -> None:
         """With each line's end altered, each line is told, the indented ones too."""
@@ -59,12 +64,14 @@ class Rows(unittest.TestCase):
         rows += "  neighbour 6 0 90: distance 1536 kind 1\n"
         self.assertEqual(vectors.differences(TWO + rows, []), [])
         self.assertEqual(vectors.differences(TWO + "\nthen more\n" + rows, []), [])
+        self.assertEqual(vectors.differences(TWO + "read ends: ends 3 6 0 0 0 90 0\n", []), [])
 
     def test_wrong_right_side(self) -> None:
         self.assert_wrong("lookup 0 0: found 4607 2 0\n", "line 4: expected lookup 0 0: found 4607")
         self.assert_wrong("add 3 0 0: ok\n", "came add 3 0 0: refused 3")
         self.assert_wrong("write into 3: refused 8, bytes a5a500\n", "came write into 3: refused 8")
         self.assert_wrong("add 2 0 0 to 4 0 0: ok\n", "refused 3")
+        self.assert_wrong("read ends: ends 3 6 0 0 0 90 1\n", "came read ends: ends 3 6 0 0 0 90 0")
 
     def test_wrong_neighbours(self) -> None:
         row = "lookup with neighbours 3 0: found 0 1 0\n"
@@ -85,6 +92,9 @@ class Rows(unittest.TestCase):
             "add 1 2 4294967296",
             "add 1 2 3 to 9 3 3",
             "clear 5",
+            "read",
+            "read ends 5",
+            "read ends into 5",
             "load",
             "load 0g",
             "load 123",

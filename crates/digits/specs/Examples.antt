@@ -1,8 +1,7 @@
 -- Closed cases that hold the definitions to what is meant.
-use Prim.Native.Nat.{ℕ}
 use mathlib.Core.Path.{_≡_, refl}
-use mathlib.Core.List.{List, [], _∷_, _++_, flatMap}
-use lib.IntN.{ℤ, pos, negsuc}
+use mathlib.Core.List.{[], _∷_, flatMap}
+use lib.IntN.{pos, negsuc}
 use Rattle.digits.specs.Decimal.{digitsOf, placesIn, decimal, signedDecimal, stated}
 use Rattle.digits.specs.Hexadecimal.{hexadecimal}
 

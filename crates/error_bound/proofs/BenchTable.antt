@@ -5,12 +5,14 @@ use native.Mathlib.Omega.{arith}
 use mathlib.Core.Bool.{true}
 use mathlib.Core.List.{[], _∷_}
 use lib.IntN.{negsuc}
-use Rattle.model.specs.Point.{Location, State, point, surveyOf, inDomain, inRange}
+use Rattle.model.specs.Point.{Location, State, point, inDomain, inRange}
+use Rattle.model.specs.Extent.{surveyOf}
 use Rattle.model.specs.Mean.{mean}
 use Rattle.model.specs.Answer.{answer}
 use Rattle.model.specs.Examples.{StarredRows, closed-rows, Is}
 use Rattle.laws.proofs.RecordLaws.{domain-bounds}
 use Rattle.laws.proofs.ChosenLaws.{chosen-all}
+use Rattle.laws.proofs.ExtentLaws.{kept-most}
 use Rattle.laws.proofs.OnePoint.{one-point-mean, one-point}
 use Rattle.error_bound.proofs.InRange.{LookupInRange}
 use Rattle.error_bound.proofs.AnswerRight.{answer-right}
@@ -29,6 +31,7 @@ one-point-row x y p h g =
       domain = domain-bounds (p .x) (p .y) g;
       some = omega arith;
       inside = (domain-bounds x y h, tt);
+      kept = kept-most (alone x y .contents) (domain-bounds x y h, tt);
       values = chosen-all (alone x y) p (λ a. inRange (a .z) ≡ true) (refl, tt);
     } in
     let right = answer-right (alone x y) p asked in

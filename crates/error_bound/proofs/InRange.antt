@@ -34,11 +34,12 @@ proper few r d D d' r' = go (eqb d 0) few (leb (3 * d) r) (ltb d r) refl
     go false false false true e = (ltb-true d r e, r')
     go false false false false e = tt
 
--- what a lookup goes by: a location in the domain, and one point or more, in the domain, whose values are in range where they are chosen
+-- what a lookup goes by: a location in the domain, one point or more, in the domain, whose values are in range where they are chosen, and an R0 that is kept of such points
 pub record LookupInRange (s : State) (p : Location) : Type 0 where
   pub domain : (p .x < 4096) × (p .y < 4096)
   pub some : 0 < length (s .contents .points)
   pub inside : All Inside (s .contents .points)
+  pub kept : s .extent .radius ≤ 2 ^ 24
   pub values : All (λ a. inRange (a .z) ≡ true) (choice s p .points)
 
 module _ (s : State) (p : Location) (A : LookupInRange s p) where
@@ -60,7 +61,7 @@ module _ (s : State) (p : Location) (A : LookupInRange s p) where
     neighbourhood-fair = record {
       some = chosen-some s p (A .some);
       most = chosen-most s p;
-      influences = λ i l. proper (few s) (choice s p .radius) (distance s p (chosen i)) (chosen-off i l) (chosen-far i l) (chosen-radius s p (A .domain) (A .some) (A .inside));
+      influences = λ i l. proper (few s) (choice s p .radius) (distance s p (chosen i)) (chosen-off i l) (chosen-far i l) (chosen-radius s p (A .domain) (A .inside) (A .kept));
       excesses = λ i j k l. excess-most s p (A .domain) (chosen i) (chosen j) (chosen-inside i k) (chosen-inside j l) (chosen-far i k) (chosen-far j l);
       products = λ i j k l. (mul-pos (chosen-off i k) (chosen-off j l), mul-le-mul (chosen-far i k) (chosen-far j l));
     }

@@ -1,2 +1,2 @@
 -- Facts that the proofs of this crate share.
-pub mod Spans
+pub mod Ends

@@ -3,6 +3,7 @@ ghost use Rattle.survey.specs.StateOf.{contentsIn};
 ghost use Rattle.file_access.specs.Access.{Reads, LengthTold, AnswerTold, Writes};
 use survey::Answer;
 use survey::Reply;
+use survey::Survey;
 use survey_file::Written;
 
 // The survey of a file: refusals 9 to 15.
@@ -41,7 +42,15 @@ pub fn tell_answer(a: Answer, answer: &mut i16, count: &mut usize, radius: &mut 
     }
 }
 
-// The file of a reply's survey to the front of the lent bytes, and its length: the reply's refusal, then 8.
+// The file of a survey to the front of the lent bytes, and its length: refusal 8.
+pub fn write(s: Survey, out: &mut [u8], length: &mut usize) -> u8
+    ensures { λ r. ⌜ Writes 0 (contentsIn s .points) (now (out .entry)) (now (length .entry)) r (now (out .exit)) (now (length .exit)) ⌝ }
+{
+    let written = survey::write(s, out);
+    tell_length(written, length)
+}
+
+// The same of a reply's survey: the reply's refusal, then 8.
 pub fn save(reply: Reply, out: &mut [u8], length: &mut usize) -> u8
     ensures { λ r. ⌜ Writes (reply .refusal) (contentsIn (reply .survey) .points) (now (out .entry)) (now (length .entry))
         r (now (out .exit)) (now (length .exit)) ⌝ }
@@ -49,7 +58,5 @@ pub fn save(reply: Reply, out: &mut [u8], length: &mut usize) -> u8
     if reply.refusal != 0 {
         return reply.refusal;
     }
-    let s = reply.survey;
-    let written = survey::write(s, out);
-    tell_length(written, length)
+    write(reply.survey, out, length)
 }

@@ -1,4 +1,4 @@
--- What the equation of a lookup and the fact about its rounding say of demand 3.
+-- What the equation of a lookup and the fact about its rounding say of demand 3, and that of what is kept of §1.
 use mathlib.Core.Path.{_≡_, refl, ap, _∙_}
 use mathlib.Core.Logic.{_⊎_, inl, inr, ⊎-elim}
 use Prim.Native.Nat.{ℕ, _<_, _≤_}
@@ -6,12 +6,14 @@ use native.Mathlib.Omega.{arith}
 use mathlib.Core.Bool.{true}
 use mathlib.Core.List.{List, [], _∷_, _++_}
 use lib.ListN.{length, take, drop, take-append-drop}
-use Rattle.model.specs.Point.{Point, Contents, State, settled, location, inDomain}
+use Rattle.model.specs.Point.{Point, Contents, Extent, State, location, inDomain}
+use Rattle.model.specs.Extent.{extentOf, settled}
 use Rattle.model.specs.Answer.{answer, chosenCount}
 use Rattle.model.specs.Refusals.{neighboursRefusal}
 use Rattle.model.specs.Lent.{neighboursInto}
 use Rattle.model.specs.Choice.{choice}
 use Rattle.laws.proofs.CallLaws.{lookup-none, lookup-some, neighbours-accepted, neighbours-refusal, neighbours-short, neighbours-enough, neighbours-unaltered}
+use Rattle.laws.proofs.ExtentLaws.{ends-none, ends-are}
 use Rattle.neighbour_records.specs.declared.Record.{Record}
 use Rattle.neighbour_records.specs.Records.{recordOf}
 use Rattle.survey.specs.declared.Answer.{Answer}
@@ -19,7 +21,7 @@ use Rattle.survey.specs.declared.Answer.the-variants.{Refused}
 use Rattle.survey.specs.LookedUp.{found, lookedUp, lookedUpLent, Rounded}
 use Rattle.survey.proofs.Looking.{looked-up}
 use Rattle.lending.specs.LentAs.{LentAs}
-use Rattle.history.specs.Claim.{Claim, ClaimLent}
+use Rattle.history.specs.Claim.{Claim, ClaimLent, ClaimKept}
 
 none-or-some : (l : List Point) → (l ≡ []) ⊎ (l ≡ [] → ⊥)
 none-or-some [] = inl refl
@@ -89,3 +91,6 @@ module _ (x y : ℕ) (q : Contents) where
       (λ h. was
       ∙ ap (λ (t : List Record). t ++ drop n l) (neighbours-unaltered recordOf x y (settled q) (take n l) (lent-refused x y (length (take n l)) q h))
       ∙ take-append-drop n l)
+
+pub claim-kept : (q : Contents) (e : Extent) → e ≡ extentOf q → ClaimKept q e
+claim-kept q e h = record { same = h; none = λ k. h ∙ ends-none q k; ends = λ k. rw h (ends-are q k) }

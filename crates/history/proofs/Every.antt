@@ -15,14 +15,17 @@ use Rattle.model.specs.Calls.{Call, Add, Change, Drop, Clear, Load, Ask, presen
 use Rattle.laws.proofs.ListLaws.{all-append}
 use Rattle.laws.proofs.ValueLaws.{mag-below}
 use Rattle.laws.proofs.Numbers.{long-back, bytes4-bytes, signed-back, complement-below}
+use Rattle.extent.specs.declared.Extent.{Extent}
+use Rattle.extent.specs.Kept.{asExtent}
 use Rattle.neighbour_records.specs.declared.Record.{Record}
 use Rattle.survey.specs.declared.Answer.{Answer}
 use Rattle.lending.specs.declared.AnswerWithRecords.{AnswerWithRecords}
-use Rattle.history.specs.Claim.{Claim, ClaimLent}
+use Rattle.history.specs.Claim.{Claim, ClaimLent, ClaimKept}
 use Rattle.history.specs.Encoding.{callOf, fileLength, numbersAt, firstCalls, calls}
 use Rattle.history.specs.Encoded.{callRecord, callBytes, callFile, encoded, files, SignedWord, Callable}
 use Rattle.history.proofs.Turns.{first-call}
 use Rattle.history.proofs.run_calls.Reads as run-calls-of
+use Rattle.history.proofs.run_calls_extent.Reads as run-calls-extent-of
 use Rattle.history.proofs.run_calls_lending.Reads as run-calls-lending-of
 
 -- the last 32 bits
@@ -118,3 +121,8 @@ module _ (cs : List Call) (h : All Callable cs) (κs : Lfts 1) (records fs : Ref
       → run-calls-lending-of.Post κs (records, (fs, (x, (y, (l, (n, tt)))))) r (records, (fs, (x, (y, (l, (n, tt))))))
       → ClaimLent x y (length (take n l)) (present cs) (r .answer) l (r .records)
   demand-3-encoded-neighbours l n r p = rw (er, ef, every cs h) at (p .1 .1)
+
+-- §1 of `run_calls_extent`, over every list of calls
+pub ends-encoded : (cs : List Call) → All Callable cs → (κs : Lfts 1) (records fs : RefT (List ℕ)) → records .now ≡ encoded cs → fs .now ≡ files cs
+    → (e : Extent) → run-calls-extent-of.Post κs (records, (fs, tt)) e (records, (fs, tt)) → ClaimKept (present cs) (asExtent e)
+ends-encoded cs h κs records fs er ef e p = rw (er, ef, every cs h) at p

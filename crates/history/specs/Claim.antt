@@ -1,11 +1,13 @@
--- Demand 3, of one lookup in what is present, and of one that is lent neighbour records.
+-- Demand 3, of one lookup in what is present, and of one that is lent neighbour records; and document 02's §1, of what is kept.
 use Prim.Native.Nat.{ℕ, _<_, _≤_}
 use mathlib.Core.Path.{_≡_}
 use mathlib.Core.Logic.{_↔_}
 use mathlib.Core.Bool.{true}
 use mathlib.Core.List.{List, []}
 use lib.IntN.{ℤ}
-use Rattle.model.specs.Point.{Contents, settled, location, inDomain}
+use lib.ListN.{length}
+use Rattle.model.specs.Point.{Contents, Extent, location, inDomain}
+use Rattle.model.specs.Extent.{zeros, extentOf, settled, IsExtent}
 use Rattle.model.specs.Mean.{Right}
 use Rattle.neighbour_records.specs.declared.Record.{Record}
 use Rattle.survey.specs.declared.Answer.{Answer}
@@ -23,3 +25,9 @@ pub record ClaimLent (x y n : ℕ) (q : Contents) (a : Answer) (l k : List Recor
   pub eight : n < 10 → inDomain x y ≡ true → (q .points ≡ [] → ⊥) → a ≡ Refused 8
   pub unaltered : n < 10 → k ≡ l
   pub enough : 10 ≤ n → Claim x y q a
+
+-- §1, of what is kept where q is present: it follows from q; so it is zeros of no point, and of one or more what §1 says
+pub record ClaimKept (q : Contents) (e : Extent) : Type 0 where
+  pub same : e ≡ extentOf q
+  pub none : q .points ≡ [] → e ≡ zeros
+  pub ends : 0 < length (q .points) → IsExtent q e

@@ -1,19 +1,22 @@
-// A list of calls, handed over as bytes, those that edit made one after the other on one survey, and a lookup after it.
+// A list of calls, handed over as bytes, those that edit made one after the other on one survey; and a lookup after it, or what is kept.
 ghost use mathlib.Core.Path.{_≡_};
 ghost use mathlib.Core.List.{_++_};
 ghost use Prim.Native.Nat.{_+_, _^_, _<_, _≤_, min};
 ghost use lib.ListN.{length, take, drop};
-ghost use Rattle.model.specs.Point.{Contents, settled};
+ghost use Rattle.model.specs.Point.{Contents};
+ghost use Rattle.model.specs.Extent.{settled};
 ghost use Rattle.model.specs.Bytes.{longAt};
 ghost use Rattle.model.specs.Calls.{after, present};
 ghost use Rattle.model.specs.Lent.{neighboursInto};
+ghost use Rattle.extent.specs.Kept.{asExtent};
 ghost use Rattle.neighbour_records.specs.Records.{recordOf};
 ghost use Rattle.survey.specs.StateOf.{stateOf};
 ghost use Rattle.survey.specs.LookedUp.{lookedUp, lookedUpLent};
-ghost use Rattle.history.specs.Claim.{Claim, ClaimLent};
+ghost use Rattle.history.specs.Claim.{Claim, ClaimLent, ClaimKept};
 ghost use Rattle.history.specs.Encoding.{callOf, fileLength, numbersAt, calls};
 use lending::AnswerWithRecords;
 use survey::Answer;
+use survey::Extent;
 use survey::Record;
 use survey::Survey;
 
@@ -138,4 +141,12 @@ pub fn run_calls_lending<'a>(
 {
     let t = left_by(records, files);
     lending::lookup_lending(t, x, y, list, n)
+}
+
+// What is kept of the points after the calls.
+pub fn run_calls_extent<'a>(records: &'a [u8], files: &'a [u8]) -> Extent
+    ensures { λ r. ⌜ ClaimKept (present (calls (now (records .entry)) (now (files .entry)))) (asExtent r) ⌝ }
+{
+    let left = left_by(records, files);
+    survey::extent(left)
 }

@@ -8,7 +8,8 @@ use lib.Dec.{eqb, ltb}
 use lib.IntN.{ℤ}
 use lib.ListN.{length, drop-of-length-le}
 use borrow.Author.Tests.{ltb-true, ltb-false, eqb-false, eq-eqb, ne-eqb, lt-ltb, le-ltb}
-use Rattle.model.specs.Point.{Contents, State, settled, inDomain, inRange}
+use Rattle.model.specs.Point.{Contents, State, inDomain, inRange}
+use Rattle.model.specs.Extent.{settled}
 use Rattle.model.specs.Answer.{Neighbour}
 use Rattle.model.specs.Refusals.{enough, lookupRefusal, neighboursRefusal}
 use Rattle.model.specs.Lent.{neighboursInto}

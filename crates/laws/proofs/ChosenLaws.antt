@@ -1,10 +1,10 @@
 -- What holds of the chosen points and of R: they are some of the points, one to ten, and neither distances nor R are beyond 2²⁴ for points in the domain.
 use mathlib.Core.Path.{_≡_, refl, sym, ap, _∙_}
-use Prim.Native.Nat.{ℕ, _-_, _*_, _/_, _^_, _≤_, _<_, min, max}
-use native.Mathlib.Nat.{le-refl, mul-le-mul, le-div-iff-mul-le}
+use Prim.Native.Nat.{ℕ, _^_, _≤_, _<_}
+use native.Mathlib.Nat.{mul-le-mul}
 use native.Mathlib.Omega.{arith}
 use mathlib.Core.Bool.{Bool, true, false, cond, false≢true}
-use mathlib.Core.List.{List, [], _∷_, foldl}
+use mathlib.Core.List.{List, [], _∷_}
 use lib.Dec.{leb}
 use lib.IntN.{pos}
 use lib.ListN.{length, take, getD, length-take}
@@ -12,13 +12,12 @@ use borrow.Author.Tests.{leb-true, leb-false}
 use Rattle.model.specs.Lists.{All}
 use Rattle.model.specs.Point.{Location, Point, State, point, at}
 use Rattle.model.specs.Distance.{gap, squared, distanceOf, distance}
-use Rattle.model.specs.Radius.{through, xs, ys, area, radiusOf, initialRadius}
 use Rattle.model.specs.Choice.{Choice, nearer, ordered, within, few, distanceAt, byCount, choiceApart, startsAt, coincident, choice}
 use Rattle.model.specs.Mean.{firstChosen}
 use Rattle.model.specs.Calls.{taken}
 use Rattle.laws.proofs.Tests.{or-false}
-use Rattle.laws.proofs.ListLaws.{all-imp, all-take, all-at, all-below, all-map}
-use Rattle.laws.proofs.RootLaws.{root-le-iff, distance-le-iff, distance-pos}
+use Rattle.laws.proofs.ListLaws.{all-imp, all-take, all-at, all-below}
+use Rattle.laws.proofs.RootLaws.{distance-le-iff, distance-pos}
 use Rattle.laws.proofs.OrderLaws.{sort-all}
 use Rattle.laws.proofs.NearestLaws.{length-ordered, choice-coincident}
 use Rattle.laws.proofs.ChoiceLaws.{squared-zero, squared-apart, coincident-is}
@@ -34,26 +33,6 @@ distance-most n h = distance-le-iff n (2 ^ 24) .1 (omega arith)
 gap-most : (m n : ℕ) → m < 4096 → n < 4096 → gap m n ≤ 4095
 gap-most m n h k = omega arith
 
-through-most : (b a : ℕ) (l : List ℕ) → a ≤ b → All (λ n. n ≤ b) l → foldl max a l ≤ b
-through-most b a [] h k = h
-through-most b a (c ∷ l) h k = through-most b (max a c) l (omega (arith, k .0)) (k .1)
-
-pub max-most : (b : ℕ) (l : List ℕ) → All (λ n. n ≤ b) l → through max l ≤ b
-unfolding through
-max-most b [] h = omega arith
-max-most b (a ∷ l) h = through-most b a l (h .0) (h .1)
-
-below : (q m a : ℕ) → 355 ≤ m → q * m ≤ 65536 * 7 * 113 * a → a ≤ 16769025 → q < 16777217 * 16777217
-below q m a h k l = let g : q * 355 ≤ q * m = mul-le-mul (le-refl q) h in omega arith
-
--- R0 of an area in the domain
-pub radius-most : (a n : ℕ) → 0 < n → a ≤ 16769025 → radiusOf a n ≤ 2 ^ 24
-unfolding radiusOf
-radius-most a n h k =
-    let q = 65536 * 7 * 113 * a / (355 * n) in
-    let m : 0 < 355 * n = omega arith in
-    root-le-iff q (2 ^ 24) .1 (below q (355 * n) a (omega arith) (le-div-iff-mul-le m .0 (le-refl q)) k)
-
 pub apart-points : (x y : ℕ) (l : List Point) → taken x y l ≡ false → All (λ a. at x y a ≡ false) l
 apart-points x y [] h = tt
 apart-points x y (a ∷ l) h = let e = or-false (at x y a) (taken x y l) h in (e .0, apart-points x y l (e .1))
@@ -66,7 +45,7 @@ module _ (s : State) (p : Location) where
   -- the rules by count, one after the other
   by-count : (Q : Choice → Type 0) (n : ℕ)
       → (n ≤ 4 → Q (record { points = take 4 (ordered s p); radius = cond (few s) 0 (distanceAt s p 4) }))
-      → (4 < n → n ≤ 10 → Q (record { points = take n (ordered s p); radius = initialRadius s }))
+      → (4 < n → n ≤ 10 → Q (record { points = take n (ordered s p); radius = s .extent .radius }))
       → (10 < n → Q (record { points = take 10 (ordered s p); radius = distanceAt s p 10 }))
       → Q (byCount s p n)
   unfolding byCount
@@ -74,7 +53,7 @@ module _ (s : State) (p : Location) where
     where
       go : (t u : Bool) → leb n 4 ≡ t → leb n 10 ≡ u
           → Q (cond t (record { points = take 4 (ordered s p); radius = cond (few s) 0 (distanceAt s p 4) })
-          (cond u (record { points = take n (ordered s p); radius = initialRadius s })
+          (cond u (record { points = take n (ordered s p); radius = s .extent .radius })
           (record { points = take 10 (ordered s p); radius = distanceAt s p 10 })))
       go true u e f = four (leb-true n 4 e)
       go false true e f = some (leb-false n 4 e) (leb-true n 10 f)
@@ -141,21 +120,13 @@ module _ (s : State) (p : Location) where
         let v = mul-le-mul k k in
         distance-most (squared s p a) (omega arith)
 
-    module _ (some : 0 < length (s .contents .points)) (inside : All Inside (s .contents .points)) where
+    -- R0 is read from what is kept, so its bound is asked for
+    module _ (inside : All Inside (s .contents .points)) (kept : s .extent .radius ≤ 2 ^ 24) where
       distanceAt-most : (i : ℕ) → distanceAt s p i ≤ 2 ^ 24
       unfolding distanceAt
       distanceAt-most i =
           point-most (getD (ordered s p) i (point 0 0 (pos 0)))
           (all-at Inside (ordered s p) i (point 0 0 (pos 0)) (omega arith, omega arith) (ordered-all Inside inside))
-
-      initial-most : initialRadius s ≤ 2 ^ 24
-      unfolding initialRadius area
-      initial-most =
-          let x = max-most 4095 (xs s) (all-map (λ n. n ≤ 4095) (λ (a : Point). a .x) (s .contents .points) (all-imp Inside (λ a. a .x ≤ 4095) (λ a h. omega (arith, h .0)) (s .contents .points) inside)) in
-          let y = max-most 4095 (ys s) (all-map (λ n. n ≤ 4095) (λ (a : Point). a .y) (s .contents .points) (all-imp Inside (λ a. a .y ≤ 4095) (λ a h. omega (arith, h .1)) (s .contents .points) inside)) in
-          let u : through max (xs s) - through min (xs s) ≤ 4095 = omega arith in
-          let v : through max (ys s) - through min (ys s) ≤ 4095 = omega arith in
-          radius-most (area s) (length (s .contents .points)) some (mul-le-mul u v)
 
       few-most : (t : Bool) (n : ℕ) → n ≤ 2 ^ 24 → cond t 0 n ≤ 2 ^ 24
       few-most true n h = omega arith
@@ -166,7 +137,7 @@ module _ (s : State) (p : Location) where
       chosen-radius =
           by-choice (λ c. c .radius ≤ 2 ^ 24) (omega arith)
           (by-count (λ c. c .radius ≤ 2 ^ 24) (within s p)
-          (λ l. few-most (few s) (distanceAt s p 4) (distanceAt-most 4)) (λ k l. initial-most) (λ l. distanceAt-most 10))
+          (λ l. few-most (few s) (distanceAt s p 4) (distanceAt-most 4)) (λ k l. kept) (λ l. distanceAt-most 10))
 
 -- the first chosen point is at p exactly where some point is
 module _ (s : State) (p : Location) where

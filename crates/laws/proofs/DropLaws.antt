@@ -1,6 +1,6 @@
 -- A dropped location may be added again, and its room among the 256 is free.
 use mathlib.Core.Path.{_≡_, refl, sym, _∙_}
-use Prim.Native.Nat.{ℕ, suc, _<_}
+use Prim.Native.Nat.{ℕ, suc, _<_, _≤_}
 use native.Mathlib.Omega.{arith}
 use mathlib.Core.Bool.{Bool, true, false, true≢false}
 use mathlib.Core.List.{List, [], _∷_}
@@ -33,7 +33,7 @@ module _ (x y : ℕ) where
   free-behind a [] e h = refl
   free-behind a (b ∷ l) e h = rw (behind a b e (h .0)) (free-behind a l e (h .1))
 
-  removed-free : (l : List Point) → Ascending l → taken x y (remove x y l) ≡ false
+  pub removed-free : (l : List Point) → Ascending l → taken x y (remove x y l) ≡ false
   removed-free [] h = refl
   removed-free (a ∷ l) h =
       cond-cases (λ r. taken x y r ≡ false) (at x y a) (λ e. free-behind a l e (h .0)) (λ e. rw e (removed-free l (h .1)))
@@ -42,6 +42,11 @@ module _ (x y : ℕ) where
   removed-shorter [] h = absurd (true≢false (sym h))
   removed-shorter (a ∷ l) h =
       cond-cases (λ r. length r < suc (length l)) (at x y a) (λ _. omega arith) (λ e. omega (arith, removed-shorter l (rw e at h)))
+
+  -- no more than one point is taken out
+  pub removed-one : (l : List Point) → length l ≤ suc (length (remove x y l))
+  removed-one [] = omega arith
+  removed-one (a ∷ l) = cond-cases (λ r. suc (length l) ≤ suc (length r)) (at x y a) (λ _. omega arith) (λ e. omega (arith, removed-one l))
 
   pub dropped-then-added : (z : ℤ) (q : Contents) → Invariant (q .points) → refusal (Drop x y) q ≡ 0 → inRange z ≡ true → refusal (Add x y z) (after (Drop x y) q) ≡ 0
   unfolding refusal accepted

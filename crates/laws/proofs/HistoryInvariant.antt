@@ -29,7 +29,7 @@ ascending-insert a l free h =
     (all-imp _ _ (λ b. precedes-other a b) l (apart-points (a .x) (a .y) l free)) h
 
 module _ (x y : ℕ) where
-  all-remove : (P : Point → Type 0) (l : List Point) → All P l → All P (remove x y l)
+  pub all-remove : (P : Point → Type 0) (l : List Point) → All P l → All P (remove x y l)
   all-remove P [] h = tt
   all-remove P (a ∷ l) h = cond-cases (All P) (at x y a) (λ _. h .1) (λ _. (h .0, all-remove P l (h .1)))
 

@@ -1,5 +1,4 @@
 -- How large the inner product g of two offsets is, and |D D' - 65,536 g|: offsets are at most 2¹⁵ and distances at most 2²⁴.
-use mathlib.Core.Path.{_≡_}
 use Prim.Native.Nat.{ℕ, _*_, _^_, _≤_, _<_}
 use native.Mathlib.Nat.{mul-le-mul, le-of-lt}
 use native.Mathlib.Omega.{arith}

@@ -2,6 +2,7 @@
 pub mod Tests
 pub mod ListLaws
 pub mod MapLaws
+pub mod ThroughLaws
 pub mod Stores
 pub mod Insertions
 pub mod IntLaws
@@ -25,5 +26,6 @@ pub mod RoundTrip
 pub mod CallLaws
 pub mod HistoryInvariant
 pub mod DropLaws
+pub mod ExtentLaws
 pub mod GridLaws
 pub mod ProgramLaws

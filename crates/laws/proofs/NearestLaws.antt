@@ -10,7 +10,6 @@ use borrow.Author.Tests.{le-leb, lt-leb}
 use Rattle.model.specs.Lists.{count}
 use Rattle.model.specs.Point.{Location, Point, State}
 use Rattle.model.specs.Distance.{distance}
-use Rattle.model.specs.Radius.{initialRadius}
 use Rattle.model.specs.Choice.{nearer, ordered, within, distanceAt, byCount, choiceApart, coincident, choice}
 use Rattle.laws.proofs.SortLaws.{length-sort}
 
@@ -31,7 +30,7 @@ module _ (s : State) (p : Location) where
 
   pub within-le : within s p ≤ length (s .contents .points)
   unfolding within
-  within-le = omega (arith, count-le (λ (a : Point). leb (distance s p a) (initialRadius s)) (ordered s p), length-ordered)
+  within-le = omega (arith, count-le (λ (a : Point). leb (distance s p a) (s .extent .radius)) (ordered s p), length-ordered)
 
   -- rules 3 to 5, by the count within R0
   pub rule-few : within s p ≤ 4 → length (s .contents .points) ≤ 4 → choiceApart s p ≡ record { points = take 4 (ordered s p); radius = 0 }
@@ -42,7 +41,7 @@ module _ (s : State) (p : Location) where
   unfolding choiceApart byCount
   rule-four h g = rw (le-leb (within s p) 4 h, lt-leb (length (s .contents .points)) 4 g)
 
-  pub rule-some : 4 < within s p → within s p ≤ 10 → choiceApart s p ≡ record { points = take (within s p) (ordered s p); radius = initialRadius s }
+  pub rule-some : 4 < within s p → within s p ≤ 10 → choiceApart s p ≡ record { points = take (within s p) (ordered s p); radius = s .extent .radius }
   unfolding choiceApart byCount
   rule-some h g = rw (lt-leb (within s p) 4 h, le-leb (within s p) 10 g)
 

@@ -10,9 +10,9 @@ use lib.Dec.{leb}
 use lib.IntN.{ℤ, pos, negsuc, negℤ, natAbs, _+ℤ_, _-ℤ_, _*ℤ_, *ℤ-comm, +ℤ-idl, negℤ-negℤ, negℤ-+ℤ}
 use lib.ListN.{getD}
 use borrow.Author.Tests.{ne-eqb}
-use Rattle.model.specs.Point.{Location, State, point, at, surveyOf}
+use Rattle.model.specs.Point.{Location, State, point, at}
 use Rattle.model.specs.Distance.{gap, squared, distance}
-use Rattle.model.specs.Radius.{initialRadius}
+use Rattle.model.specs.Extent.{surveyOf}
 use Rattle.model.specs.Choice.{Choice, within, coincident, byCount, choiceApart, choice}
 use Rattle.model.specs.Fraction.{Fraction, Signed, whole, plus, timesZ, plusZ, overZ}
 use Rattle.model.specs.Influence.{Influence, inverse, influenceAt}
@@ -98,7 +98,7 @@ module _ (x y : ℕ) (z : ℤ) (p : Location) where
 
   within-one : leb (within one p) 4 ≡ true
   unfolding within
-  within-one = go (leb (distance one p (point x y z)) (initialRadius one))
+  within-one = go (leb (distance one p (point x y z)) (one .extent .radius))
     where
       go : (t : Bool) → leb (cond {A = ℕ} t 1 0) 4 ≡ true
       go true = refl

@@ -3,15 +3,18 @@ use mathlib.Core.Path.{_≡_, refl, sym, ap, ap₂, _∙_}
 use Prim.Native.Nat.{ℕ, suc, _+_, _*_, _≤_, _<_}
 use native.Mathlib.Omega.{arith}
 use mathlib.Core.Bool.{Bool, true, false, cond, and-eq-true-iff, false≢true}
-use mathlib.Core.List.{List, [], _∷_, map, foldl}
+use mathlib.Core.List.{List, [], _∷_, _++_, map, map-append}
 use lib.IntN.{ℤ, pos, negsuc, natAbs, _+ℤ_, _-ℤ_, _*ℤ_}
 use lib.Dec.{leb}
+use lib.ListN.{length, length-map}
 use lib.Signed.{mag, leZ, _≤ℤ_, ≤ℤ-refl}
 use borrow.Author.Tests.{le-leb, leb-false}
 use Rattle.model.specs.Lists.{All}
 use Rattle.model.specs.Point.{Point, inRange}
 use Rattle.model.specs.Distance.{gap}
-use Rattle.model.specs.Mean.{lesser, greater, valuesBy}
+use Rattle.model.specs.Extent.{lesser, greater, valuesBy}
+use Rattle.laws.proofs.ListLaws.{all-map, all-of-map}
+use Rattle.laws.proofs.ThroughLaws.{through-last, through-keeps, through-all}
 use Rattle.laws.proofs.DiffLaws.{diff, up, down, diff-of, diff-pos, diff-plus, diff-minus, diff-times, diff-same, abs-diff, parts-of-le, le-of-parts, diff-le}
 
 pub ≤ℤ-trans : (a b c : ℤ) → a ≤ℤ b → b ≤ℤ c → a ≤ℤ c
@@ -25,34 +28,6 @@ leZ-false (pos m) (pos n) e = le-of-parts (pos n) (pos m) (omega (arith, leb-fal
 leZ-false (pos m) (negsuc n) e = record { le = tt }
 leZ-false (negsuc m) (pos n) e = absurd (false≢true (sym e))
 leZ-false (negsuc m) (negsuc n) e = le-of-parts (negsuc n) (negsuc m) (omega (arith, leb-false n m e))
-
--- an operation that gives one of its two operands
-module _ (op : ℤ → ℤ → ℤ) (P : ℤ → Type 0) (one : (a b : ℤ) → P a → P b → P (op a b)) where
-  fold-keeps : (m : ℤ) (l : List Point) → P m → All (λ a. P (a .z)) l → P (foldl op m (map (λ (b : Point). b .z) l))
-  fold-keeps m [] p h = p
-  fold-keeps m (a ∷ l) p h = fold-keeps (op m (a .z)) l (one m (a .z) p (h .0)) (h .1)
-
-  values-keep : (l : List Point) → P (pos 0) → All (λ a. P (a .z)) l → P (valuesBy op l)
-  unfolding valuesBy
-  values-keep [] p h = p
-  values-keep (a ∷ l) p h = fold-keeps (a .z) l (h .0) (h .1)
-
--- an operation whose result is beyond neither operand, on the side that R tells
-module _ (op : ℤ → ℤ → ℤ) (R : ℤ → ℤ → Type 0) (self : (a : ℤ) → R a a) (trans : (a b c : ℤ) → R a b → R b c → R a c)
-    (left : (a b : ℤ) → R (op a b) a) (right : (a b : ℤ) → R (op a b) b) where
-  fold-start : (m : ℤ) (l : List Point) → R (foldl op m (map (λ (b : Point). b .z) l)) m
-  fold-start m [] = self m
-  fold-start m (a ∷ l) = trans (foldl op (op m (a .z)) (map (λ (b : Point). b .z) l)) (op m (a .z)) m (fold-start (op m (a .z)) l) (left m (a .z))
-
-  fold-all : (m : ℤ) (l : List Point) → All (λ a. R (foldl op m (map (λ (b : Point). b .z) l)) (a .z)) l
-  fold-all m [] = tt
-  fold-all m (a ∷ l) =
-      (trans (foldl op (op m (a .z)) (map (λ (b : Point). b .z) l)) (op m (a .z)) (a .z) (fold-start (op m (a .z)) l) (right m (a .z)), fold-all (op m (a .z)) l)
-
-  values-all : (l : List Point) → All (λ a. R (valuesBy op l) (a .z)) l
-  unfolding valuesBy
-  values-all [] = tt
-  values-all (a ∷ l) = (fold-start (a .z) l, fold-all (a .z) l)
 
 lesser-left : (a b : ℤ) → lesser a b ≤ℤ a
 lesser-left a b = go (leZ a b) refl
@@ -83,20 +58,36 @@ greater-right a b = go (leZ a b) refl
     go false e = leZ-false a b e
 
 pub least-all : (l : List Point) → All (λ a. valuesBy lesser l ≤ℤ a .z) l
-least-all l = values-all lesser _≤ℤ_ ≤ℤ-refl ≤ℤ-trans lesser-left lesser-right l
+unfolding valuesBy
+least-all l =
+    all-of-map (λ z. valuesBy lesser l ≤ℤ z) (λ (a : Point). a .z) l
+    (through-all (pos 0) lesser _≤ℤ_ ≤ℤ-refl ≤ℤ-trans lesser-left lesser-right (map (λ (a : Point). a .z) l))
 
 pub greatest-all : (l : List Point) → All (λ a. a .z ≤ℤ valuesBy greater l) l
-greatest-all l = values-all greater (λ a b. b ≤ℤ a) ≤ℤ-refl (λ a b c h k. ≤ℤ-trans c b a k h) greater-left greater-right l
+unfolding valuesBy
+greatest-all l =
+    all-of-map (λ z. z ≤ℤ valuesBy greater l) (λ (a : Point). a .z) l
+    (through-all (pos 0) greater (λ a b. b ≤ℤ a) ≤ℤ-refl (λ a b c h k. ≤ℤ-trans c b a k h) greater-left greater-right (map (λ (a : Point). a .z) l))
+
+pub values-last : (op : ℤ → ℤ → ℤ) (l : List Point) (b : Point) → 0 < length l → valuesBy op (l ++ (b ∷ [])) ≡ op (valuesBy op l) (b .z)
+unfolding valuesBy
+values-last op l b h =
+    rw (map-append (λ (a : Point). a .z) l (b ∷ []))
+    (through-last (pos 0) op (map (λ (a : Point). a .z) l) (b .z) (omega (arith, length-map l (λ (a : Point). a .z))))
 
 one-of : (P : ℤ → Type 0) (t : Bool) (a b : ℤ) → P a → P b → P (cond t a b)
 one-of P true a b p q = p
 one-of P false a b p q = q
 
 pub least-keeps : (P : ℤ → Type 0) (l : List Point) → P (pos 0) → All (λ a. P (a .z)) l → P (valuesBy lesser l)
-least-keeps P l z h = values-keep lesser P (λ a b p q. one-of P (leZ a b) a b p q) l z h
+unfolding valuesBy
+least-keeps P l z h =
+    through-keeps (pos 0) lesser P (λ a b p q. one-of P (leZ a b) a b p q) (map (λ (a : Point). a .z) l) z (all-map P (λ (a : Point). a .z) l h)
 
 pub greatest-keeps : (P : ℤ → Type 0) (l : List Point) → P (pos 0) → All (λ a. P (a .z)) l → P (valuesBy greater l)
-greatest-keeps P l z h = values-keep greater P (λ a b p q. one-of P (leZ a b) b a q p) l z h
+unfolding valuesBy
+greatest-keeps P l z h =
+    through-keeps (pos 0) greater P (λ a b p q. one-of P (leZ a b) b a q p) (map (λ (a : Point). a .z) l) z (all-map P (λ (a : Point). a .z) l h)
 
 -- the ends of the value range
 pub range-ends : (z : ℤ) → inRange z ≡ true → (negsuc 127 ≤ℤ z) × (z ≤ℤ pos 127)

@@ -14,7 +14,8 @@ use Rattle.model.specs.Point.{Location, Point, State, point, inDomain}
 use Rattle.model.specs.Distance.{distance, offsetX, offsetY}
 use Rattle.model.specs.Choice.{coincident, choice}
 use Rattle.model.specs.Weight.{neighbourhood}
-use Rattle.model.specs.Mean.{lesser, valuesBy, firstChosen, leastChosen}
+use Rattle.model.specs.Extent.{lesser, valuesBy}
+use Rattle.model.specs.Mean.{firstChosen, leastChosen}
 use Rattle.model.specs.Computed.{meanF}
 use Rattle.model.specs.Answer.{nearestHalf, answer}
 use Rattle.relative_error.specs.Close.{plain}
@@ -37,7 +38,7 @@ module _ (s : State) (p : Location) (c : Chosen) (A : Asked s p c) where
   inside = all-imp (λ a. inDomain (a .x) (a .y) ≡ true) Inside (λ a h. domain-bounds (a .x) (a .y) h) (s .contents .points) (A .inside)
 
   pub in-range : LookupInRange s p
-  in-range = record { domain = A .domain; some = A .some; inside = inside; values = A .chose .values }
+  in-range = record { domain = A .domain; some = A .some; inside = inside; kept = A .kept; values = A .chose .values }
 
   abbrev first : Neighbour
   first = itemAt c 0

@@ -5,7 +5,7 @@ use Prim.Native.Nat.{ℕ, _<_}
 use lib.IntN.{ℤ}
 use lib.ListN.{getD}
 use lib.Ieee.{Float, binary64, nan, mul, div}
-use Rattle.model.specs.Computed.{float, sumF, weightF, scaledMeanF, lessenedF, meanF}
+use Rattle.model.specs.Computed.{float, weightF, scaledMeanF, lessenedF, meanF}
 use Rattle.model.specs.Weight.{Neighbourhood}
 use Rattle.relative_error.proofs.SumLaws.{sumF-same}
 

@@ -13,7 +13,8 @@ use Rattle.model.specs.Distance.{inner}
 use Rattle.model.specs.Choice.{choice}
 use Rattle.model.specs.Influence.{Influence, isEdge}
 use Rattle.model.specs.Weight.{Neighbourhood, allEdge, excessOf, neighbourhoodOf, neighbourhood}
-use Rattle.model.specs.Mean.{valuesBy, lesser, leastChosen}
+use Rattle.model.specs.Extent.{valuesBy, lesser}
+use Rattle.model.specs.Mean.{leastChosen}
 use Rattle.model.specs.Computed.{float, sumF, factorF, factorAtF, termF, weightF, scaledMeanF, lessenedF, meanF}
 use Rattle.laws.proofs.MapLaws.{getD-map}
 use Rattle.relative_error.proofs.SumLaws.{sumF-same}

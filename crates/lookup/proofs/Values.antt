@@ -4,15 +4,15 @@ use Prim.Native.Nat.{ℕ, suc, _+_, _-_, _%_, _≤_, _<_}
 use native.Mathlib.Nat.{not-suc-le-zero}
 use native.Mathlib.Numerals.{add-one}
 use native.Mathlib.Omega.{arith}
-use mathlib.Core.List.{List, [], _∷_, _++_, map, map-append, foldl-append}
+use mathlib.Core.List.{List, [], _∷_, map, map-append}
 use lib.Signed.{mag}
 use lib.IntN.{ℤ, pos, negsuc, natAbs, _-ℤ_}
 use lib.ListN.{length, take, getD, length-map, length-take}
 use lib.Seq.{take-suc}
-use Rattle.model.specs.Point.{Point}
 use Rattle.model.specs.Bytes.{complement}
 use Rattle.model.specs.Distance.{gap}
-use Rattle.model.specs.Mean.{valuesBy, lesser}
+use Rattle.model.specs.Extent.{valuesBy, lesser}
+use Rattle.laws.proofs.ValueLaws.{values-last}
 use Rattle.laws.proofs.DiffLaws.{diff, diff-of, diff-same, diff-minus, abs-diff}
 use Rattle.neighbours.specs.declared.Neighbour.{Neighbour}
 use Rattle.weights.specs.Seen.{noNeighbour, pointOf}
@@ -22,16 +22,11 @@ unfolding valuesBy
 least-first [] h = absurd (not-suc-le-zero h)
 least-first (a ∷ l) h = refl
 
-more : (op : ℤ → ℤ → ℤ) (l : List Point) (b : Point) → 0 < length l → valuesBy op (l ++ (b ∷ [])) ≡ op (valuesBy op l) (b .z)
-unfolding valuesBy
-more op [] b h = absurd (not-suc-le-zero h)
-more op (a ∷ l) b h = rw (map-append (λ (c : Point). c .z) l (b ∷ [])) (foldl-append op (a .z) (map (λ (c : Point). c .z) l) (b .z ∷ []))
-
 pub least-more : (l : List Neighbour) (i : ℕ) → 1 ≤ i → i < length l
     → valuesBy lesser (map pointOf (take (i + 1) l)) ≡ lesser (valuesBy lesser (map pointOf (take i l))) (getD l i noNeighbour .z)
 least-more l i h g =
     let n : 0 < length (map pointOf (take i l)) = simp (length-map, length-take) (omega arith) in
-    rw (add-one i, take-suc l i noNeighbour g, map-append pointOf (take i l) (getD l i noNeighbour ∷ [])) (more lesser (map pointOf (take i l)) (pointOf (getD l i noNeighbour)) n)
+    rw (add-one i, take-suc l i noNeighbour g, map-append pointOf (take i l) (getD l i noNeighbour ∷ [])) (values-last lesser (map pointOf (take i l)) (pointOf (getD l i noNeighbour)) n)
 
 -- a value with 128 added, by its two's complement
 pub raised-is : (z : ℤ) → mag z < 128 → z ≡ pos ((complement 128 z + 128) % 256) -ℤ pos 128

@@ -4,25 +4,16 @@ ghost use Prim.Native.Nat.{ℕ, _<_, _≤_};
 ghost use lib.Ieee.{nan};
 ghost use lib.IntN.{pos, _-ℤ_};
 ghost use lib.ListN.{getD};
-ghost use Rattle.model.specs.Mean.{valuesBy, lesser as lesserOf};
+ghost use Rattle.model.specs.Extent.{valuesBy, lesser};
 ghost use Rattle.model.specs.Computed.{lessenedF};
 ghost use Rattle.weights.specs.Seen.{pointsHeld, itemAt};
 use floats::to_float;
 use neighbours::Chosen;
 
-fn lesser(a: i8, b: i8) -> i8
-    ensures { λ r. ⌜ r ≡ lesserOf a b ⌝ }
-{
-    if a <= b {
-        return a;
-    }
-    b
-}
-
 // The least of the values held, 0 of none.
 pub(crate) fn least_value(c: Chosen) -> i8
     requires { ⌜ c .count ≤ 10 ⌝ }
-    ensures { λ r. ⌜ r ≡ valuesBy lesserOf (pointsHeld c) ⌝ }
+    ensures { λ r. ⌜ r ≡ valuesBy lesser (pointsHeld c) ⌝ }
 {
     if c.count == 0 {
         return 0;
@@ -34,7 +25,7 @@ pub(crate) fn least_value(c: Chosen) -> i8
     let mut i = 1usize;
     while i < count {
         let a = items[i];
-        least = lesser(least, a.z);
+        least = numbers::lesser(least, a.z);
         i += 1;
     }
     least

@@ -5,7 +5,8 @@ use mathlib.Core.List.{List, [], _∷_}
 use lib.Dec.{ltb, eqb}
 use lib.IntN.{ℤ}
 use lib.ListN.{length}
-use Rattle.model.specs.Point.{Point, Contents, State, point, contentsOf, withPoints, settled, at, precedes}
+use Rattle.model.specs.Point.{Point, Contents, State, point, contentsOf, withPoints, at, precedes}
+use Rattle.model.specs.Extent.{settled}
 use Rattle.model.specs.Order.{insert}
 use Rattle.model.specs.Refusals.{onDomain, withinRange}
 use Rattle.model.specs.SurveyFile.{fileRefusal, filePoints}

@@ -8,7 +8,6 @@ use lib.ListN.{length, take, getD}
 use Rattle.model.specs.Lists.{count}
 use Rattle.model.specs.Point.{Location, Point, State, point, at, lexical, precedes}
 use Rattle.model.specs.Distance.{squared, distance}
-use Rattle.model.specs.Radius.{initialRadius}
 use Rattle.model.specs.Order.{sort}
 
 -- a comes before b, seen from p: by d², then x, then y
@@ -23,8 +22,8 @@ ordered s p = sort (nearer s p) (s .contents .points)
 
 -- n: how many points have D ≤ R0
 unfoldable pub within : State → Location → ℕ
-unfolding distance initialRadius count ordered
-within s p = count (λ (a : Point). leb (distance s p a) (initialRadius s)) (ordered s p)
+unfolding distance count ordered
+within s p = count (λ (a : Point). leb (distance s p a) (s .extent .radius)) (ordered s p)
 
 -- four points or fewer are present
 abbrev pub few : State → Bool
@@ -42,10 +41,10 @@ distanceAt s p i = distance s p (getD (ordered s p) i (point 0 0 (pos 0)))
 
 -- rules 3 to 5, for n points within R0
 unfoldable pub byCount : State → Location → ℕ → Choice
-unfolding ordered distanceAt initialRadius
+unfolding ordered distanceAt
 byCount s p n =
     cond (leb n 4) (record { points = take 4 (ordered s p); radius = cond (few s) 0 (distanceAt s p 4) })
-    (cond (leb n 10) (record { points = take n (ordered s p); radius = initialRadius s })
+    (cond (leb n 10) (record { points = take n (ordered s p); radius = s .extent .radius })
     (record { points = take 10 (ordered s p); radius = distanceAt s p 10 }))
 
 -- rules 2 to 5: the choice where no point is at p

@@ -1,5 +1,5 @@
 -- Closed cases that hold the definitions to document 01: the starred rows of its bench table, `closed-rows`; rows of our own that these cannot replace,
--- `further`, `calls`, `lent`, `files`, `refusals` and `grids`; and the whole case of the grid program.
+-- `further`, `calls`, `kept`, `lent`, `files`, `refusals` and `grids`; and the whole case of the grid program.
 use Prim.Native.Nat.{ℕ, _+_, _<_}
 use mathlib.Core.Path.{_≡_, refl}
 use mathlib.Core.Bool.{true, false}
@@ -8,9 +8,9 @@ use lib.Dec.{lit<}
 use lib.IntN.{ℤ, pos, negsuc, _*ℤ_}
 use lib.ListN.{replicate}
 use Rattle.model.specs.Lists.{tabulate}
-use Rattle.model.specs.Point.{Location, Point, Contents, State, point, location, contentsOf, settled, surveyOf}
+use Rattle.model.specs.Point.{Location, Point, Contents, State, point, location, contentsOf}
 use Rattle.model.specs.Distance.{distance}
-use Rattle.model.specs.Radius.{initialRadius}
+use Rattle.model.specs.Extent.{extentOf, settled, surveyOf}
 use Rattle.model.specs.Choice.{choice}
 use Rattle.model.specs.Influence.{influenceAt, kind}
 use Rattle.model.specs.Fraction.{Signed}
@@ -20,7 +20,7 @@ use Rattle.model.specs.Answer.{Neighbour, answer, chosenCount, neighbour
 use Rattle.model.specs.Refusals.{lookupRefusal, neighboursRefusal}
 use Rattle.model.specs.Lent.{neighboursInto}
 use Rattle.model.specs.SurveyFile.{fault, wrongSize, fileRefusal, fileOf}
-use Rattle.model.specs.Calls.{Add, Change, Drop, Clear, Load, Ask, refusal, fresh, present, edited}
+use Rattle.model.specs.Calls.{Call, Add, Change, Drop, Clear, Load, Ask, refusal, fresh, present, edited}
 use Rattle.model.specs.Grid.{Grid, gridRefusal, cells}
 use Rattle.model.specs.Program.{program}
 
@@ -81,7 +81,7 @@ StarredRows =
     × (kinds five middle ≡ 2 ∷ 2 ∷ 2 ∷ 2 ∷ 2 ∷ [])
     × Is (mean five middle) (pos 18) 1
     × (answer five middle ≡ pos 4608)
-    × (initialRadius twelve ≡ 1103)
+    × (twelve .extent .radius ≡ 1103)
     × (chosenCount twelve middle ≡ 4)
     × (choice twelve middle .radius ≡ 1280)
     × (kinds twelve middle ≡ 3 ∷ 3 ∷ 3 ∷ 3 ∷ [])
@@ -91,7 +91,7 @@ StarredRows =
     × (map (distance five (location 0 0)) (point 0 0 (pos 0) ∷ point 1 0 (pos 0) ∷ point 1 1 (pos 0) ∷ []) ≡ 0 ∷ 256 ∷ 362 ∷ [])
 
 pub closed-rows : StarredRows
-unfolding mean answer choice neighbours neighbourhood weightedMean initialRadius influenceAt distance
+unfolding mean answer choice neighbours neighbourhood weightedMean extentOf influenceAt distance
 closed-rows =
     ((refl, lit< tt), refl, (refl, lit< tt), refl, (refl, lit< tt), (refl, lit< tt), (refl, lit< tt), refl, refl, refl, refl, (refl, lit< tt), refl, refl, refl, refl, refl, (refl, lit< tt), refl, refl, refl)
 
@@ -106,7 +106,7 @@ pub further : Is (mean (two 1 1 (pos 0) 2 2 (pos 100)) (location 0 0)) (pos 9829
     × (choice (crowd 10) crowded .radius ≡ 451728)
     × (chosenCount (crowd 11) crowded ≡ 10)
     × (choice (crowd 11) crowded .radius ≡ 2816)
-unfolding mean choice distance tabulate
+unfolding mean choice extentOf distance tabulate
 further = ((refl, lit< tt), (refl, lit< tt), refl, refl, (refl, lit< tt), refl, refl, refl, refl, refl)
 
 -- the first refusal that applies, and what a list of calls leaves
@@ -132,6 +132,40 @@ pub calls : (refusal (Add 4096 0 (pos 128)) full ≡ 1)
 unfolding refusal lookupRefusal neighboursRefusal present edited tabulate
 calls = (refl, refl, refl, refl, refl, refl, refl, refl, refl, refl, refl, refl, refl, refl, refl, refl)
 
+-- what is kept, as a list of numbers
+abbrev ends : State → List ℤ
+ends s = let e = s .extent in pos (e .leastX) ∷ pos (e .greatestX) ∷ pos (e .leastY) ∷ pos (e .greatestY) ∷ e .leastZ ∷ e .greatestZ ∷ pos (e .radius) ∷ []
+
+-- what is kept after three adds, two of them of corner points, and the calls cs
+abbrev endsAfter : List Call → List ℤ
+endsAfter cs = ends (settled (present (Add 10 20 (pos 5) ∷ Add 30 60 (negsuc 3) ∷ Add 20 40 (pos 1) ∷ cs)))
+
+abbrev three : List ℤ
+three = pos 10 ∷ pos 30 ∷ pos 20 ∷ pos 60 ∷ negsuc 3 ∷ pos 5 ∷ pos 6240 ∷ []
+
+-- a state with other numbers kept than those of its points
+abbrev stale : State
+stale = record { contents = contentsOf (point 7 8 (pos 9) ∷ []); extent = record { leastX = 1; greatestX = 2; leastY = 3; greatestY = 4; leastZ = pos 5; greatestZ = pos 6; radius = 7 } }
+
+-- zeros of no point; R0 of one point and of two; a dropped corner shrinks the rectangle, but not where another point holds its edge; a change moves the least value
+-- inwards; a clear and a load renew all; a refused call of each kind renews nothing; a lookup goes by the R0 that is kept
+pub kept : (ends (settled fresh) ≡ pos 0 ∷ pos 0 ∷ pos 0 ∷ pos 0 ∷ pos 0 ∷ pos 0 ∷ pos 0 ∷ [])
+    × (ends (surveyOf (point 5 6 (negsuc 6) ∷ [])) ≡ pos 5 ∷ pos 5 ∷ pos 6 ∷ pos 6 ∷ negsuc 6 ∷ negsuc 6 ∷ pos 0 ∷ [])
+    × (ends (two 0 4095 (pos 127) 4095 0 (negsuc 127)) ≡ pos 0 ∷ pos 4095 ∷ pos 0 ∷ pos 4095 ∷ negsuc 127 ∷ pos 127 ∷ pos 1106503 ∷ [])
+    × (endsAfter [] ≡ three)
+    × (endsAfter (Drop 30 60 ∷ []) ≡ pos 10 ∷ pos 20 ∷ pos 20 ∷ pos 40 ∷ pos 1 ∷ pos 5 ∷ pos 3821 ∷ [])
+    × (endsAfter (Add 30 20 (pos 5) ∷ Drop 10 20 ∷ []) ≡ pos 20 ∷ pos 30 ∷ pos 20 ∷ pos 60 ∷ negsuc 3 ∷ pos 5 ∷ pos 4412 ∷ [])
+    × (endsAfter (Change 30 60 (pos 0) ∷ []) ≡ pos 10 ∷ pos 30 ∷ pos 20 ∷ pos 60 ∷ pos 0 ∷ pos 5 ∷ pos 6240 ∷ [])
+    × (endsAfter (Clear ∷ []) ≡ ends (settled fresh))
+    × (endsAfter (Load (fileOf (point 1 2 (pos 3) ∷ point 2 1 (pos 4) ∷ [])) ∷ []) ≡ pos 1 ∷ pos 2 ∷ pos 1 ∷ pos 2 ∷ pos 3 ∷ pos 4 ∷ pos 270 ∷ [])
+    × (endsAfter (Add 4096 0 (pos 9) ∷ Add 0 0 (pos 128) ∷ Add 10 20 (pos 9) ∷ Change 0 0 (pos 9) ∷ Drop 0 0 ∷ Load [] ∷ Ask ∷ []) ≡ three)
+    × (ends (edited (Add 4095 4095 (pos 9)) (settled full)) ≡ pos 0 ∷ pos 255 ∷ pos 0 ∷ pos 0 ∷ pos 0 ∷ pos 0 ∷ pos 0 ∷ [])
+    × (chosenCount (record { contents = five .contents; extent = stale .extent }) middle ≡ 4)
+    × (edited (Drop 0 0) stale ≡ stale)
+    × (edited (Change 7 8 (pos 0)) stale ≡ surveyOf (point 7 8 (pos 0) ∷ []))
+unfolding choice present edited extentOf fileOf tabulate
+kept = (refl, refl, refl, refl, refl, refl, refl, refl, refl, refl, refl, refl, refl, refl)
+
 -- a lent list: of eleven records the first two are written, nine are too few, and a refused lookup writes none
 abbrev shown : Neighbour → List ℕ
 shown n = n .x ∷ n .y ∷ n .distance ∷ n .kind ∷ []
@@ -139,7 +173,7 @@ shown n = n .x ∷ n .y ∷ n .distance ∷ n .kind ∷ []
 pub lent : (neighboursInto shown (two 3 0 (pos 0) 6 0 (pos 90)) 0 0 (replicate 11 []) ≡ (3 ∷ 0 ∷ 768 ∷ 1 ∷ []) ∷ (6 ∷ 0 ∷ 1536 ∷ 1 ∷ []) ∷ replicate 9 [])
     × (neighboursInto shown (two 3 0 (pos 0) 6 0 (pos 90)) 0 0 (replicate 9 []) ≡ replicate 9 [])
     × (neighboursInto shown (settled fresh) 0 0 (replicate 11 []) ≡ replicate 11 [])
-unfolding neighboursInto
+unfolding neighboursInto extentOf
 lent = (refl, refl, refl)
 
 -- what follows a count c and a distance back b of one byte each, with a sum of 0
@@ -178,7 +212,7 @@ pub grids : (map (λ g. gridRefusal g (settled fresh) 0) (square 0 0 0 1 ∷ squ
     × (gridRefusal (square 0 0 65 64) five 4095 ≡ 8)
     × (gridRefusal (square 0 0 65 64) five 4096 ≡ 0)
     × (cells (surveyOf (point 5 5 (pos 1) ∷ point 5 7 (pos 3) ∷ point 7 5 (pos 2) ∷ point 7 7 (pos 4) ∷ [])) (square 5 5 2 2) ≡ pos 256 ∷ pos 512 ∷ pos 768 ∷ pos 1024 ∷ [])
-unfolding gridRefusal cells
+unfolding gridRefusal cells extentOf
 grids = (refl, refl, refl, refl, refl)
 
 -- document 01's whole case of the grid program

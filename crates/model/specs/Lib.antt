@@ -3,6 +3,7 @@ pub mod Lists
 pub mod Point
 pub mod Distance
 pub mod Radius
+pub mod Extent
 pub mod Order
 pub mod Choice
 pub mod Fraction

@@ -1,7 +1,8 @@
 -- A few words about lists that the definitions share.
 use Prim.Native.Nat.{ℕ, zero, suc, _<_}
 use mathlib.Core.Bool.{Bool, cond}
-use mathlib.Core.List.{List, [], _∷_, _++_}
+use mathlib.Core.Logic.{_⊎_}
+use mathlib.Core.List.{List, [], _∷_, _++_, foldl}
 use lib.ListN.{length, drop}
 
 module _ {A : Type 0} where
@@ -15,6 +16,11 @@ module _ {A : Type 0} where
   count f [] = 0
   count f (a ∷ l) = cond (f a) (suc (count f l)) (count f l)
 
+  -- an operation carried through a list from its first element on, as min or max; `none` of an empty list
+  unfoldable pub through : A → (A → A → A) → List A → A
+  through none op [] = none
+  through none op (a ∷ l) = foldl op a l
+
   -- what a lent list l holds once b was written to its front
   abbrev pub laid : List A → List A → List A
   laid b l = b ++ drop (length b) l
@@ -23,6 +29,11 @@ module _ {A : Type 0} where
   abbrev pub All : (A → Type 0) → List A → Type 0
   All P [] = Unit {0}
   All P (a ∷ l) = P a × All P l
+
+  -- a fact of some element
+  abbrev pub Some : (A → Type 0) → List A → Type 0
+  Some P [] = ⊥
+  Some P (a ∷ l) = P a ⊎ Some P l
 
   -- a fact of every two elements, the earlier one first
   abbrev pub Pairs : (A → A → Type 0) → List A → Type 0

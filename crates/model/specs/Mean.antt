@@ -1,11 +1,11 @@
 -- The exact mean, a fraction of two whole numbers, and what is asked of an answer: document 01, "Pull and mean", and demand 3.
 use Prim.Native.Nat.{_*_, _≤_, _<_}
 use mathlib.Core.Bool.{cond}
-use mathlib.Core.List.{List, [], _∷_, map, foldl}
 use lib.IntN.{ℤ, pos, _-ℤ_, _*ℤ_, natAbs}
 use lib.ListN.{getD}
-use lib.Signed.{leZ, _≤ℤ_}
+use lib.Signed.{_≤ℤ_}
 use Rattle.model.specs.Point.{Location, Point, State, point}
+use Rattle.model.specs.Extent.{lesser, greater, valuesBy}
 use Rattle.model.specs.Choice.{choice, coincident}
 use Rattle.model.specs.Fraction.{Signed, sum, timesZ, sumZ, overZ}
 use Rattle.model.specs.Weight.{Neighbourhood, neighbourhood, weight}
@@ -29,17 +29,6 @@ mean s p = cond (coincident s p) (record { top = firstChosen s p .z; bot = 1 }) 
 pub record Near (a : ℤ) (m : Signed) : Type 0 where
   pub proper : 0 < m .bot
   pub close : natAbs ((pos 256 *ℤ a *ℤ pos (m .bot)) -ℤ (pos 65536 *ℤ m .top)) ≤ 129 * m .bot
-
-abbrev pub lesser : ℤ → ℤ → ℤ
-lesser a b = cond (leZ a b) a b
-
-abbrev pub greater : ℤ → ℤ → ℤ
-greater a b = cond (leZ a b) b a
-
--- an operation carried through the values of a list, as lesser or greater; 0 of none
-unfoldable pub valuesBy : (ℤ → ℤ → ℤ) → List Point → ℤ
-valuesBy op [] = pos 0
-valuesBy op (a ∷ l) = foldl op (a .z) (map (λ (b : Point). b .z) l)
 
 -- the least and the greatest chosen value
 unfoldable pub leastChosen : State → Location → ℤ

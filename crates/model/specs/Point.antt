@@ -27,9 +27,20 @@ point x y z = record { x = x; y = y; z = z }
 pub record Contents : Type 0 where
   pub points : List Point
 
--- what a lookup reads: the contents, and what is kept beside them so that no lookup works it out anew. Nothing is kept yet
+-- what is kept of the points: the least and the greatest x, y and value, and the initial radius R0
+pub record Extent : Type 0 where
+  pub leastX : ℕ
+  pub greatestX : ℕ
+  pub leastY : ℕ
+  pub greatestY : ℕ
+  pub leastZ : ℤ
+  pub greatestZ : ℤ
+  pub radius : ℕ
+
+-- what a lookup reads: the contents, and what is kept beside them so that no lookup works it out anew
 pub record State : Type 0 where
   pub contents : Contents
+  pub extent : Extent
 
 -- the contents of a list of points, with nothing else set
 abbrev pub contentsOf : List Point → Contents
@@ -38,14 +49,6 @@ contentsOf l = record { points = l }
 -- contents with other points in place of their own
 abbrev pub withPoints : Contents → List Point → Contents
 withPoints q l = record { points = l }
-
--- contents, and beside them what is kept of them
-abbrev pub settled : Contents → State
-settled q = record { contents = q }
-
--- the survey of a list of points, with nothing else set
-abbrev pub surveyOf : List Point → State
-surveyOf l = settled (contentsOf l)
 
 -- the domain, document 01's sheet: both coordinates from 0 to 4,095
 abbrev pub inDomain : ℕ → ℕ → Bool

@@ -3,7 +3,8 @@ use Prim.Native.Nat.{ℕ, _+_, _/_, _%_}
 use mathlib.Core.Bool.{cond}
 use mathlib.Core.List.{List, [], _∷_, _++_}
 use lib.Dec.{ltb, eqb}
-use Rattle.model.specs.Point.{State, surveyOf}
+use Rattle.model.specs.Point.{State}
+use Rattle.model.specs.Extent.{extentOf, surveyOf}
 use Rattle.model.specs.Bytes.{wordAt}
 use Rattle.model.specs.SurveyFile.{fileRefusal, filePoints, recordStart}
 use Rattle.model.specs.Grid.{Grid, gridCheck}
@@ -18,7 +19,7 @@ stateIn f = surveyOf (filePoints f)
 
 -- 9 to 15; then 7, of fewer than 12 bytes before the first record or of the grid; then 6
 unfoldable pub programRefusal : List ℕ → ℕ
-unfolding fileRefusal filePoints
+unfolding fileRefusal filePoints extentOf
 programRefusal f =
     cond (eqb (fileRefusal f) 0) (cond (ltb (recordStart f) 12) 7 (gridCheck (gridIn f) (stateIn f) 0)) (fileRefusal f)
 
@@ -31,5 +32,5 @@ abbrev pub refusedText : ℕ → List ℕ
 refusedText n = (114 ∷ 101 ∷ 102 ∷ 117 ∷ 115 ∷ 101 ∷ 100 ∷ 32 ∷ []) ++ decimal n ++ (10 ∷ [])
 
 unfoldable pub program : List ℕ → List ℕ
-unfolding programRefusal filePoints gridFile
+unfolding programRefusal filePoints extentOf gridFile
 program f = cond (eqb (programRefusal f) 0) (gridFile (stateIn f) (gridIn f)) (refusedText (programRefusal f))

@@ -12,7 +12,6 @@ use lib.Seq.{take-all, getD-take}
 use borrow.Author.Tests.{eq-eqb, ne-eqb}
 use Rattle.model.specs.Point.{Location, Point, State, point, at}
 use Rattle.model.specs.Distance.{squared, distanceOf, distance}
-use Rattle.model.specs.Radius.{initialRadius}
 use Rattle.model.specs.Choice.{ordered, within, distanceAt, choiceApart, startsAt, coincident, choice}
 use Rattle.laws.proofs.ChoiceLaws.{squared-zero, squared-apart}
 use Rattle.laws.proofs.NearestLaws.{length-ordered, within-le, choice-coincident, choice-otherwise, rule-few, rule-four, rule-some, rule-ten}
@@ -100,7 +99,7 @@ module _ (s : State) (p : Location) (k : ℕ) (b : Candidates) (h : HoldsEnough 
       let five : 4 < b .count = omega (arith, h .enough) in
       rw (rule-four s p (omega (arith, h .within)) (omega arith)) (record { held = omega arith; points = refl; radius = distance-at 4 d five q })
 
-  pub selects-within : (r : ℕ) → r ≡ initialRadius s → 4 < k → k ≤ 10 → Selects s p (choiceApart s p) b (record { count = k; radius = r })
+  pub selects-within : (r : ℕ) → r ≡ s .extent .radius → 4 < k → k ≤ 10 → Selects s p (choiceApart s p) b (record { count = k; radius = r })
   selects-within r er l g =
       rw (rule-some s p (omega (arith, h .within)) (omega (arith, h .within)))
       (record { held = omega (arith, h .enough, h .within, within-le s p); points = rw (h .within); radius = er })

@@ -11,7 +11,6 @@ use lib.Seq.{length-take-le, take-at}
 use Rattle.model.specs.Lists.{count, All}
 use Rattle.model.specs.Point.{Location, Point, State, inRange}
 use Rattle.model.specs.Distance.{squared, distanceOf, distance}
-use Rattle.model.specs.Radius.{initialRadius}
 use Rattle.model.specs.Choice.{ordered, within}
 use Rattle.laws.proofs.ListLaws.{all-of-map, all-take}
 use Rattle.laws.proofs.ChosenLaws.{ordered-all}
@@ -31,7 +30,7 @@ module _ (s : State) (p : Location) (squares : List ℕ) (held : HoldsSquares s 
   squares-all = ap length held ∙ length-map (s .contents .points) (squared s p)
 
   -- by the limit that R0 sets
-  within-is : (k r reach : ℕ) → Words squares → k ≡ countWithin reach squares → r ≡ initialRadius s
+  within-is : (k r reach : ℕ) → Words squares → k ≡ countWithin reach squares → r ≡ s .extent .radius
       → ((d : ℕ) → d < 4294967296 → leb d reach ≡ leb (distanceOf d) r) → k ≡ within s p
   unfolding within distance
   within-is k r reach words ek er test =
@@ -39,9 +38,9 @@ module _ (s : State) (p : Location) (squares : List ℕ) (held : HoldsSquares s 
       ∙ count-same (λ d. leb d reach) (λ d. leb (distanceOf d) r) squares 0 (λ i h. test _ (words i h))
       ∙ ap (count (λ d. leb (distanceOf d) r)) held
       ∙ count-map (squared s p) (λ d. leb (distanceOf d) r) (s .contents .points)
-      ∙ rw er (sym (order-count s p (λ (a : Point). leb (distance s p a) (initialRadius s))))
+      ∙ rw er (sym (order-count s p (λ (a : Point). leb (distance s p a) (s .extent .radius))))
 
-  pub gathered : All (λ (a : Point). (a .x < 4096) × (a .y < 4096)) (s .contents .points) → (k r reach limit : ℕ) (b : Candidates) → Words squares → k ≡ countWithin reach squares → r ≡ initialRadius s
+  pub gathered : All (λ (a : Point). (a .x < 4096) × (a .y < 4096)) (s .contents .points) → (k r reach limit : ℕ) (b : Candidates) → Words squares → k ≡ countWithin reach squares → r ≡ s .extent .radius
       → ((d : ℕ) → d < 4294967296 → leb d reach ≡ leb (distanceOf d) r) → needed k (length squares) ≤ countWithin limit squares
       → HoldsFirst s p limit b → InRange (listOf b) → HoldsEnough s p k b
   unfolding candidateAt

@@ -4,7 +4,6 @@ ghost use mathlib.Core.List.{map};
 ghost use Prim.Native.Nat.{ℕ, _≤_};
 ghost use lib.ListN.{length, take};
 ghost use Rattle.model.specs.Point.{State, Location};
-ghost use Rattle.model.specs.Radius.{initialRadius};
 ghost use Rattle.model.specs.Choice.{Choice, choice, coincident as coincidentAt, choiceApart};
 ghost use Rattle.metric.specs.From.{Sees, Proper};
 ghost use Rattle.neighbours.specs.Selects.{HoldsEnough, Selects, seenFrom};
@@ -31,7 +30,7 @@ fn coincident(b: Candidates) -> bool
 // Rules 2 to 5, for a lookup where no point is at the location. m points are present, k of them within R0; R is D of the first point left out, or R0, or 0 where four or fewer are present.
 pub(crate) fn by_count(b: Candidates, m: usize, k: u32, r0: u32) -> Selection
     ensures { λ r. ⌜ r .count ≤ 10 ⌝ }
-    ensures { λ r. ⌜ ((s : State) (p : Location) → HoldsEnough s p k b → m ≡ length (s .contents .points) → r0 ≡ initialRadius s → Selects s p (choiceApart s p) b r) ⌝ }
+    ensures { λ r. ⌜ ((s : State) (p : Location) → HoldsEnough s p k b → m ≡ length (s .contents .points) → r0 ≡ s .extent .radius → Selects s p (choiceApart s p) b r) ⌝ }
 {
     let items = b.items;
     if k <= 4 {
@@ -63,7 +62,7 @@ pub(crate) fn by_count(b: Candidates, m: usize, k: u32, r0: u32) -> Selection
 // Rule 1, or the others where no point is at the location.
 pub(crate) fn selected(b: Candidates, m: usize, k: u32, r0: u32) -> Selection
     ensures { λ r. ⌜ r .count ≤ 10 ⌝ }
-    ensures { λ r. ⌜ ((s : State) (p : Location) → HoldsEnough s p k b → m ≡ length (s .contents .points) → r0 ≡ initialRadius s → Selects s p (choice s p) b r) ⌝ }
+    ensures { λ r. ⌜ ((s : State) (p : Location) → HoldsEnough s p k b → m ≡ length (s .contents .points) → r0 ≡ s .extent .radius → Selects s p (choice s p) b r) ⌝ }
 {
     if coincident(b) {
         return Selection {

@@ -2,12 +2,9 @@
 mod choice;
 
 ghost use mathlib.Core.Path.{_≡_};
-ghost use mathlib.Core.List.{List};
 ghost use Prim.Native.Nat.{ℕ, _≤_};
-ghost use lib.IntN.{ℤ};
 ghost use lib.ListN.{length};
 ghost use Rattle.model.specs.Point.{Location, State};
-ghost use Rattle.model.specs.Radius.{initialRadius};
 ghost use Rattle.model.specs.Choice.{choice as choiceOf, choiceApart};
 ghost use Rattle.point_arrays.specs.PointArrays.{HoldsPoints};
 ghost use Rattle.metric.specs.From.{Sees, Proper};
@@ -57,7 +54,7 @@ fn among<'a>(
 ) -> Nearest
     requires { ⌜ length (now squares) ≤ 256 ⌝ }
     ensures { λ r. ⌜ ((s : State) (p : Location) (n : ℕ) → HoldsPoints s (now (xs .entry)) (now (ys .entry)) (now (zs .entry)) n → HoldsSquares s p (now (squares .entry))
-        → r0 ≡ initialRadius s → HoldsEnough s p (r .within) (r .first)) ⌝ }
+        → r0 ≡ s .extent .radius → HoldsEnough s p (r .within) (r .first)) ⌝ }
 {
     let reach = root::reach_of(r0);
     let within = squares::count_within(squares, reach);
@@ -85,7 +82,7 @@ fn nearest_points<'a>(
     r0: u32,
 ) -> Nearest
     requires { ⌜ Proper v ⌝ }
-    ensures { λ r. ⌜ ((s : State) (p : Location) → HoldsPoints s (now (xs .entry)) (now (ys .entry)) (now (zs .entry)) n → Sees s p v → r0 ≡ initialRadius s
+    ensures { λ r. ⌜ ((s : State) (p : Location) → HoldsPoints s (now (xs .entry)) (now (ys .entry)) (now (zs .entry)) n → Sees s p v → r0 ≡ s .extent .radius
         → HoldsEnough s p (r .within) (r .first)) ⌝ }
 {
     let m = point_arrays::clamped(n);
@@ -104,7 +101,7 @@ pub fn choose<'a>(
     r0: u32,
 ) -> Chosen
     requires { ⌜ Proper v ⌝ }
-    ensures { λ r. ⌜ ((s : State) (p : Location) → HoldsPoints s (now (xs .entry)) (now (ys .entry)) (now (zs .entry)) n → Sees s p v → r0 ≡ initialRadius s
+    ensures { λ r. ⌜ ((s : State) (p : Location) → HoldsPoints s (now (xs .entry)) (now (ys .entry)) (now (zs .entry)) n → Sees s p v → r0 ≡ s .extent .radius
         → Holds s p (choiceOf s p) r) ⌝ }
 {
     let m = point_arrays::clamped(n);
@@ -123,7 +120,7 @@ pub fn choose_apart<'a>(
     r0: u32,
 ) -> Chosen
     requires { ⌜ Proper v ⌝ }
-    ensures { λ r. ⌜ ((s : State) (p : Location) → HoldsPoints s (now (xs .entry)) (now (ys .entry)) (now (zs .entry)) n → Sees s p v → r0 ≡ initialRadius s
+    ensures { λ r. ⌜ ((s : State) (p : Location) → HoldsPoints s (now (xs .entry)) (now (ys .entry)) (now (zs .entry)) n → Sees s p v → r0 ≡ s .extent .radius
         → Holds s p (choiceApart s p) r) ⌝ }
 {
     let m = point_arrays::clamped(n);

@@ -1,10 +1,11 @@
-// Whole numbers: words of bytes, high byte first, two's complement, the sum of bytes, differences and sizes.
+// Whole numbers: words of bytes, high byte first, two's complement, the sum of bytes, differences and sizes, and the lesser and the greater of two values.
 ghost use mathlib.Core.Path.{_≡_};
 ghost use Prim.Native.Nat.{_+_, _^_, _<_, _≤_};
 ghost use lib.IntN.{natAbs};
 ghost use lib.ListN.{length};
 ghost use Rattle.model.specs.Bytes.{wordAt, longAt, complement, signed, total as totalOf};
 ghost use Rattle.model.specs.Distance.{gap as gapOf};
+ghost use Rattle.model.specs.Extent.{lesser as lesserOf, greater as greaterOf};
 
 // A byte as a wider number.
 fn wide(b: u8) -> usize
@@ -104,4 +105,22 @@ pub fn absolute(v: i64) -> u64
     ensures { λ r. ⌜ r ≡ natAbs v ⌝ }
 {
     if v < 0 { (-1 - v) as u64 + 1 } else { v as u64 }
+}
+
+pub fn lesser(a: i8, b: i8) -> i8
+    ensures { λ r. ⌜ r ≡ lesserOf a b ⌝ }
+{
+    if a <= b {
+        return a;
+    }
+    b
+}
+
+pub fn greater(a: i8, b: i8) -> i8
+    ensures { λ r. ⌜ r ≡ greaterOf a b ⌝ }
+{
+    if a <= b {
+        return b;
+    }
+    a
 }

@@ -1,16 +1,16 @@
 -- Points as arrays are read: as many as the count says, at most 256, and in the domain whatever the arrays hold.
 use mathlib.Core.Path.{_≡_, _∙_}
-use Prim.Native.Nat.{ℕ, _%_, _<_, min}
+use Prim.Native.Nat.{ℕ, _+_, _%_, _<_, min}
 use native.Mathlib.Omega.{arith}
 use mathlib.Core.Bool.{true, and-eq-true-iff}
-use mathlib.Core.List.{List}
+use mathlib.Core.List.{List, [], _∷_, _++_, map-append}
 use lib.Dec.{ltb}
 use lib.IntN.{ℤ, pos}
 use lib.ListN.{length, getD, length-map}
 use borrow.Author.Tests.{lt-ltb}
 use Rattle.model.specs.Lists.{All}
 use Rattle.model.specs.Point.{Point, point, inDomain}
-use Rattle.laws.proofs.ListLaws.{all-any, all-imp, all-map, getD-tabulate}
+use Rattle.laws.proofs.ListLaws.{all-any, all-imp, all-map, getD-tabulate, tabulate-more}
 use Rattle.laws.proofs.MapLaws.{map-tabulate}
 use Rattle.laws.proofs.RecordLaws.{domain-bounds}
 use Rattle.point_arrays.specs.PointArrays.{held, wrapped, pointsIn}
@@ -25,6 +25,14 @@ pub points-at : (xs ys : List ℕ) (zs : List ℤ) (n i : ℕ) (d : Point) → i
     → getD (pointsIn xs ys zs n) i d ≡ wrapped (point (getD xs i 0) (getD ys i 0) (getD zs i (pos 0)))
 unfolding pointsIn held
 points-at xs ys zs n i d h = rw (map-tabulate, getD-tabulate)
+
+pub points-more : (xs ys : List ℕ) (zs : List ℤ) (i : ℕ) → i < 256
+    → pointsIn xs ys zs (i + 1) ≡ pointsIn xs ys zs i ++ (wrapped (point (getD xs i 0) (getD ys i 0) (getD zs i (pos 0))) ∷ [])
+unfolding pointsIn held
+points-more xs ys zs i h =
+    let e : min (i + 1) 256 ≡ i + 1 = omega arith in
+    let f : min i 256 ≡ i = omega arith in
+    rw (e, f, tabulate-more) (map-append wrapped (held xs ys zs i) (point (getD xs i 0) (getD ys i 0) (getD zs i (pos 0)) ∷ []))
 
 wrapped-location : (a : Point) → inDomain (wrapped a .x) (wrapped a .y) ≡ true
 wrapped-location a =

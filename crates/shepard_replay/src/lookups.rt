@@ -1,4 +1,4 @@
-// Lookups, without and with neighbours.
+// What a call asks of the survey: lookups, without and with neighbours, and what is kept.
 use crate::journal;
 use crate::replies;
 use crate::show;
@@ -31,5 +31,10 @@ pub fn lookup_neighbours(s: Survey) -> Step {
     replies::answered(answer);
     let list = r.records;
     show::records(list, m);
+    step::next(s)
+}
+
+pub fn ends(s: Survey) -> Step {
+    replies::ends(survey::extent(s));
     step::next(s)
 }

@@ -27,6 +27,7 @@ fn run_call(s: Survey) -> Step {
         b'w' => files::write(s),
         b'q' => lookups::lookup(s),
         b'n' => lookups::lookup_neighbours(s),
+        b'e' => lookups::ends(s),
         b'g' => grids::cells(s),
         b'f' => grids::write(s),
         _ => step::bad_journal(s),

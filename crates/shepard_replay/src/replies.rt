@@ -1,6 +1,8 @@
 // The line that answers a call.
+use crate::show;
 use grid::Filled;
 use survey::Answer;
+use survey::Extent;
 use survey_file::Written;
 
 pub fn refused(no: u8) {
@@ -33,6 +35,28 @@ pub fn answered(a: Answer) {
         Answer::Found(answer, count, radius) => found(answer, count, radius),
         Answer::Refused(no) => refused(no),
     }
+}
+
+// A space and a coordinate.
+fn coordinate(n: u16) {
+    print::space();
+    print::number(n as u64);
+}
+
+// Least and greatest x, y and value, and R0.
+pub fn ends(e: Extent) {
+    print::word(b"ends");
+    coordinate(e.least_x);
+    coordinate(e.greatest_x);
+    coordinate(e.least_y);
+    coordinate(e.greatest_y);
+    print::space();
+    show::value(e.least_z);
+    print::space();
+    show::value(e.greatest_z);
+    print::space();
+    print::number(e.radius as u64);
+    print::line_feed();
 }
 
 fn counted(name: &[u8], n: usize) {

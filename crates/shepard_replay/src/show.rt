@@ -47,6 +47,10 @@ fn wide(z: i8) -> i16 {
     z as i16
 }
 
+pub fn value(z: i8) {
+    print::signed(wide(z));
+}
+
 // What parts the fields of a record.
 fn comma() {
     print::word(b",");
@@ -59,7 +63,7 @@ fn record(r: Record) {
     comma();
     print::number(r.y as u64);
     comma();
-    print::signed(wide(r.z));
+    value(r.z);
     comma();
     print::number(r.distance as u64);
     comma();

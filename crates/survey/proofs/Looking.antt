@@ -1,11 +1,10 @@
 -- What a lookup answers, from the refusal and from the answer worked out over the arrays.
 use mathlib.Core.Path.{_≡_, refl, sym, _∙_}
-use Prim.Native.Nat.{ℕ}
+use Prim.Native.Nat.{ℕ, _^_, min}
 use native.Mathlib.Omega.{arith}
 use lib.IntN.{ℤ}
 use borrow.Author.Tests.{eq-eqb, ne-eqb}
 use Rattle.model.specs.Point.{State, location}
-use Rattle.model.specs.Radius.{initialRadius}
 use Rattle.model.specs.Refusals.{lookupRefusal, neighboursRefusal}
 use Rattle.model.specs.Lent.{neighboursInto}
 use Rattle.laws.proofs.RecordLaws.{domain-bounds}
@@ -23,7 +22,7 @@ use Rattle.survey.specs.LookedUp.{found, lookedUp, lookedUpLent, Rounded
 use Rattle.survey.proofs.Becoming.{holds, points-held}
 
 -- what an accepted lookup hands to the arithmetic over arrays
-pub handed : (s : Survey) (x y r : ℕ) → lookupRefusal x y (stateOf s) ≡ 0 → r ≡ initialRadius (stateOf s)
+pub handed : (s : Survey) (x y r : ℕ) → lookupRefusal x y (stateOf s) ≡ 0 → r ≡ min (s .extent .radius) (2 ^ 24)
     → Handed (stateOf s) (location x y) (s .x) (s .y) (s .z) (s .count) (record { x = x; y = y }) r
 handed s x y r e h =
     let a = lookup-accepted x y (stateOf s) e in
@@ -34,6 +33,7 @@ handed s x y r e h =
       sees = record { location = refl };
       proper = record { x = b .0; y = b .1 };
       radius = h;
+      reach = omega arith;
     }
 
 module _ (s : State) (x y : ℕ) where

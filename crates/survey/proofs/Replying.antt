@@ -2,14 +2,14 @@
 use mathlib.Core.Path.{_≡_, sym, ap, _∙_}
 use Prim.Native.Nat.{ℕ}
 use mathlib.Core.List.{List}
-use Rattle.model.specs.Point.{settled}
+use Rattle.model.specs.Extent.{settled}
 use Rattle.model.specs.SurveyFile.{fileRefusal}
 use Rattle.model.specs.Calls.{Call, Load, refusal, accepted}
 use Rattle.model.specs.Program.{stateIn}
 use Rattle.laws.proofs.CallLaws.{edited-accepted, edited-refused}
 use Rattle.survey.specs.declared.Survey.{Survey}
 use Rattle.survey.specs.declared.Reply.{Reply}
-use Rattle.survey.specs.StateOf.{contentsIn, stateOf, Plain}
+use Rattle.survey.specs.StateOf.{contentsIn, stateOf, PlainPoints, Plain, Settles}
 use Rattle.survey.specs.Replies.{Replies}
 
 module _ (c : Call) (s : Survey) where
@@ -22,15 +22,17 @@ module _ (c : Call) (s : Survey) where
         plain = λ p. rw (g .1) p;
       }
 
-  pub reply-accepted : (n : ℕ) (t : Survey) → n ≡ refusal c (contentsIn s) → n ≡ 0 → contentsIn t ≡ accepted c (contentsIn s) → (Plain s → Plain t)
-      → Replies c s (record { refusal = n; survey = t })
-  reply-accepted n t e h g p =
+  -- u is t with what is kept worked out anew
+  pub reply-accepted : (n : ℕ) (t u : Survey) → n ≡ refusal c (contentsIn s) → n ≡ 0 → contentsIn t ≡ accepted c (contentsIn s) → (PlainPoints s → PlainPoints t)
+      → Settles t u → Replies c s (record { refusal = n; survey = u })
+  unfolding Plain
+  reply-accepted n t u e h g p b =
       let k : refusal c (contentsIn s) ≡ 0 = sym e ∙ h in
       record {
         number = e;
-        state = ap settled g ∙ sym (edited-accepted c (stateOf s) k);
+        state = b .state ∙ ap settled g ∙ sym (edited-accepted c (stateOf s) k);
         unaltered = λ f. absurd (f k);
-        plain = p;
+        plain = λ k. b .plain (p (k .0));
       }
 
 -- a file that was read

@@ -1,10 +1,10 @@
-// The survey with one point put in, taken out, or written over.
+// The survey with one point put in, taken out, or written over, and with what is kept worked out anew.
 ghost use mathlib.Core.List.{_++_, _∷_};
 ghost use Prim.Native.Nat.{_+_, _≤_, _<_};
 ghost use lib.ListN.{length, take, drop, set};
 ghost use Rattle.model.specs.Point.{point};
 ghost use Rattle.model.specs.Invariant.{Sound};
-ghost use Rattle.survey.specs.StateOf.{contentsIn, Becomes};
+ghost use Rattle.survey.specs.StateOf.{contentsIn, Becomes, Settles};
 use crate::Survey;
 
 // A point at index i, those from there on one further.
@@ -56,5 +56,15 @@ pub(crate) fn with_value(s: Survey, i: usize, x: u32, y: u32, z: i32) -> Survey
     t.x[i] = x as u16;
     t.y[i] = y as u16;
     t.z[i] = z as i8;
+    t
+}
+
+// What is kept, from the arrays, in place of what was kept before: the last step of every accepted edit.
+pub(crate) fn settled(s: Survey) -> Survey
+    ensures { λ r. ⌜ Settles s r ⌝ }
+{
+    let e = extent::extent_of(&s.x, &s.y, &s.z, s.count);
+    let mut t = s;
+    t.extent = e;
     t
 }

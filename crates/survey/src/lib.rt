@@ -1,18 +1,21 @@
-// The survey: at most 256 points, ascending by x, then y. A call takes the survey by value; one that edits gives it back beside the refusal's number.
+// The survey: at most 256 points, ascending by x, then y. What is kept of them stands beside them. A call takes the survey by value; one that edits gives it back beside the refusal's number.
 mod edits;
 
 ghost use mathlib.Core.Path.{_≡_};
 ghost use Prim.Native.Nat.{_≤_};
 ghost use lib.ListN.{length};
-ghost use Rattle.model.specs.Point.{location, settled};
+ghost use Rattle.model.specs.Point.{location};
+ghost use Rattle.model.specs.Extent.{settled};
 ghost use Rattle.model.specs.Refusals.{lookupRefusal};
 ghost use Rattle.model.specs.SurveyFile.{writtenInto};
 ghost use Rattle.model.specs.Calls.{Add, Change, Drop, Clear, Load, fresh as freshState};
+ghost use Rattle.extent.specs.Kept.{asExtent};
 ghost use Rattle.survey_file.specs.Written.{writtenAs};
 ghost use Rattle.lookup.specs.AnswersAs.{AnswersAs};
 ghost use Rattle.survey.specs.StateOf.{contentsIn, stateOf, Plain};
 ghost use Rattle.survey.specs.Replies.{Replies};
 ghost use Rattle.survey.specs.LookedUp.{lookedUp, Rounded, Decides};
+pub use extent::Extent;
 use lookup::Answered;
 use metric::Viewpoint;
 pub use neighbour_records::Record;
@@ -26,6 +29,7 @@ pub struct Survey {
     y: [u16; 256],
     z: [i8; 256],
     count: usize,
+    extent: Extent,
 }
 
 // What a call that edits gives: 0 or the refusal's number, and the survey, the same one where it is refused.
@@ -55,6 +59,7 @@ pub fn fresh() -> Survey
         y: [0u16; 256],
         z: [0i8; 256],
         count: 0,
+        extent: extent::zeros(),
     }
 }
 
@@ -63,6 +68,15 @@ pub fn count(s: Survey) -> usize
     ensures { λ r. ⌜ (r ≡ length (contentsIn s .points)) × (r ≤ 256) ⌝ }
 {
     point_arrays::clamped(s.count)
+}
+
+// What is kept of the points: the ends of their coordinates and of their values, and the initial radius R0; zeros of none.
+pub fn extent(s: Survey) -> Extent
+    ensures { λ r. ⌜ asExtent r ≡ stateOf s .extent ⌝ }
+{
+    let mut e = s.extent;
+    e.radius = extent::clamped(e.radius);
+    e
 }
 
 fn refused(no: u8, s: Survey) -> Reply
@@ -86,7 +100,7 @@ pub fn add(s: Survey, x: u32, y: u32, z: i32) -> Reply
     let t = edits::with_point(s, i, x, y, z);
     Reply {
         refusal: no,
-        survey: t,
+        survey: edits::settled(t),
     }
 }
 
@@ -102,7 +116,7 @@ pub fn change(s: Survey, x: u32, y: u32, z: i32) -> Reply
     let t = edits::with_value(s, i, x, y, z);
     Reply {
         refusal: no,
-        survey: t,
+        survey: edits::settled(t),
     }
 }
 
@@ -118,7 +132,7 @@ pub fn drop(s: Survey, x: u32, y: u32) -> Reply
     let t = edits::without_point(s, i);
     Reply {
         refusal: no,
-        survey: t,
+        survey: edits::settled(t),
     }
 }
 
@@ -130,7 +144,7 @@ pub fn clear(s: Survey) -> Reply
     t.count = 0;
     Reply {
         refusal: 0,
-        survey: t,
+        survey: edits::settled(t),
     }
 }
 
@@ -152,7 +166,7 @@ pub fn load(s: Survey, file: &[u8]) -> Reply
     t.count = f.count;
     Reply {
         refusal: f.refusal,
-        survey: t,
+        survey: edits::settled(t),
     }
 }
 
@@ -173,7 +187,8 @@ fn answered(s: Survey, x: u32, y: u32) -> Answered
         x: x as u16,
         y: y as u16,
     };
-    let r0 = extent::initial_radius(&s.x, &s.y, s.count);
+    let e = s.extent;
+    let r0 = extent::clamped(e.radius);
     lookup::answer_at(&s.x, &s.y, &s.z, s.count, v, r0)
 }
 

@@ -3,18 +3,12 @@ ghost use Rattle.model.specs.SurveyFile.{fileRefusal, filePoints};
 ghost use Rattle.model.specs.Calls.{fresh as freshContents};
 ghost use Rattle.file_access.specs.Access.{Writes};
 ghost use Rattle.whole_files.specs.Counts.{Counts};
-use survey::Reply;
 
 // The file of a survey of no points: refusal 8.
 pub fn fresh(out: &mut [u8], length: &mut usize) -> u8
     ensures { λ r. ⌜ Writes 0 (freshContents .points) (now (out .entry)) (now (length .entry)) r (now (out .exit)) (now (length .exit)) ⌝ }
 {
-    let s = survey::fresh();
-    let reply = Reply {
-        refusal: 0,
-        survey: s,
-    };
-    file_access::save(reply, out, length)
+    file_access::write(survey::fresh(), out, length)
 }
 
 // How many points a file has: refusals 9 to 15.

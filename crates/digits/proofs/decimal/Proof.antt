@@ -1,5 +1,4 @@
 -- `decimal` meets its contract: a number below 2^64 has at most 20 digits.
-use Prim.Native.Nat.{_≤_}
 use native.Mathlib.Omega.{arith}
 use borrow.Author.Needs.{needs}
 use Rattle.digits.proofs.Widths.{places-most, length-digits}

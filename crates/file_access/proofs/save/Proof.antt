@@ -1,7 +1,7 @@
 -- `save` meets its contract: a refused reply writes nothing.
 use borrow.Author.Needs.{needs}
 use Rattle.survey.specs.StateOf.{contentsIn}
-use Rattle.file_access.proofs.FileLaws.{saves-none, saves-file}
+use Rattle.file_access.proofs.FileLaws.{saves-none}
 use Rattle.file_access.proofs.save.Statement.{statement}
 use Rattle.file_access.proofs.save.Tie as tie
 
@@ -13,18 +13,11 @@ returns c =
 write-requires : tie.Need-write-requires
 write-requires c κs = search needs
 
-tell-length-requires : tie.Need-tell-length-requires
-tell-length-requires c κs = search needs
-
 same-length : tie.Need-same-length
 same-length c = search needs
 
 returns-2 : tie.Need-returns-2
-returns-2 c =
-    let w = c .before .before .before .before in
-    let e = w .before .before .before in
-    let a = e .before .before .before .args in
-    saves-file (a .reply .refusal) (contentsIn (a .reply .survey) .points) (a .out .now) (a .length .now) (e .if1 .left) (w .write .result) _ _ _ (w .write .ensures .0) (w .write .ensures .1) (c .tell-length .ensures)
+returns-2 c = let w = c .before .before in rw (w .before .before .before .if1 .left) (w .write .ensures)
 
 pub save-spec : {M : Type 1} → statement M
-save-spec = tie.close (tie.spec returns write-requires tell-length-requires same-length returns-2)
+save-spec = tie.close (tie.spec returns write-requires same-length returns-2)

@@ -4,7 +4,8 @@ use Prim.Native.Nat.{_*_, _-_, _/_, _≤_}
 use native.Mathlib.Omega.{arith}
 use lib.ListN.{length, take, drop, getD}
 use borrow.Author.Needs.{needs}
-use Rattle.model.specs.Point.{Contents, settled}
+use Rattle.model.specs.Point.{Contents}
+use Rattle.model.specs.Extent.{settled}
 use Rattle.model.specs.Calls.{fresh, after, afterAll, present}
 use Rattle.survey.specs.StateOf.{stateOf}
 use Rattle.history.specs.Encoding.{callOf, calls}

@@ -8,7 +8,8 @@ use lib.IntN.{ℤ}
 use lib.ListN.{getD}
 use mir.Facts.{toZ-ofZ}
 use mir.Syntax.{w32}
-use Rattle.model.specs.Point.{Contents, settled}
+use Rattle.model.specs.Point.{Contents}
+use Rattle.model.specs.Extent.{settled}
 use Rattle.model.specs.Bytes.{signed}
 use Rattle.model.specs.Calls.{Add, Change, Drop, Clear, Load, after}
 use Rattle.laws.proofs.CallLaws.{after-ask}

@@ -1,6 +1,6 @@
 -- `answer_at` meets its contract: what `choose` ensures is what `answer_of` asks.
 use mathlib.Core.Path.{_≡_, sym, ap, subst, _∙_}
-use Prim.Native.Nat.{ℕ, _<_}
+use Prim.Native.Nat.{ℕ}
 use native.Mathlib.Omega.{arith}
 use mathlib.Core.Bool.{true}
 use mathlib.Core.List.{List}
@@ -26,6 +26,7 @@ asked s p xs ys zs n v r0 c h chose = record {
   domain = rw (h .sees .location) (h .proper .x, h .proper .y);
   some = omega (arith, h .some, ap length (h .points), length-points xs ys zs n);
   inside = subst (All (λ (a : Point). inDomain (a .x) (a .y) ≡ true)) (sym (h .points)) (points-inside xs ys zs n);
+  kept = rw (← h .radius) (h .reach);
   chose = chose;
 }
 

@@ -1,6 +1,6 @@
 -- `root_of` meets its contract. The invariant: the root lies from `low` up to, and not at, `high`, and so does the number that is tried. The measure is their distance.
 use mathlib.Core.Logic.{⊎-elim}
-use Prim.Native.Nat.{ℕ, _+_, _-_, _*_, _≤_, _<_}
+use Prim.Native.Nat.{_+_, _-_, _≤_, _<_}
 use native.Mathlib.Omega.{arith}
 use borrow.Author.Needs.{needs}
 use Rattle.model.specs.Distance.{root}

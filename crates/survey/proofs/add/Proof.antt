@@ -34,18 +34,22 @@ with-point-requires c κs =
     let h = add-hands (a .x) (a .y) (a .z) (contentsIn (a .t1)) (sym (rw (toZ-ofZ (b .fits .z)) at (f .before .of-add .ensures (stateOf (a .t1)) (a .t1 .z) (holds (a .t1)))) ∙ f .if1 .left) in
     (rank-within (a .t1) (a .x) (a .y) _ (c .rank .ensures (a .t1 .z)), h .0, rw (toZ-ofZ (b .fits .z)) (h .1))
 
+settled-requires : tie.Need-settled-requires
+settled-requires c κs = tt
+
 returns-2 : tie.Need-returns-2
 unfolding contentsIn
 returns-2 c =
-    let r = c .before in
+    let e = c .before in
+    let r = e .before in
     let f = r .before .before .before .before in
     let n = f .before in
     let b = n .before .before .before .before in
     let a = b .args in
-    let t = rw (toZ-ofZ (b .fits .z)) at (c .with-point .ensures) in
-    reply-accepted (Add (a .x) (a .y) (a .z)) (a .t1) _ _ (rw (toZ-ofZ (b .fits .z)) at (n .of-add .ensures (stateOf (a .t1)) (a .t1 .z) (holds (a .t1)))) (f .if1 .left)
-    (added (a .t1) (a .x) (a .y) _ (r .rank .ensures (a .t1 .z)) (a .z) _ t) (t .plain)
+    let t = rw (toZ-ofZ (b .fits .z)) at (e .with-point .ensures) in
+    reply-accepted (Add (a .x) (a .y) (a .z)) (a .t1) _ _ _ (rw (toZ-ofZ (b .fits .z)) at (n .of-add .ensures (stateOf (a .t1)) (a .t1 .z) (holds (a .t1)))) (f .if1 .left)
+    (added (a .t1) (a .x) (a .y) _ (r .rank .ensures (a .t1 .z)) (a .z) _ t) (t .plain) (c .settled .ensures)
 
 pub add-spec : {M : Type 1} → statement M
 add-spec =
-    tie.close (tie.spec of-add-requires refused-requires returns rank-requires with-point-requires returns-2)
+    tie.close (tie.spec of-add-requires refused-requires returns rank-requires with-point-requires settled-requires returns-2)

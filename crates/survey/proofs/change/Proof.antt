@@ -34,18 +34,22 @@ with-value-requires c κs =
     let e = sym (rw (toZ-ofZ (b .fits .z)) at (f .before .of-change .ensures (stateOf (a .t1)) (a .t1 .z) (holds (a .t1)))) ∙ f .if1 .left in
     (change-within (a .t1) (a .x) (a .y) _ (c .find .ensures (a .t1 .z)) (a .z) e, rw (toZ-ofZ (b .fits .z)) (change-hands (a .x) (a .y) (a .z) (contentsIn (a .t1)) e))
 
+settled-requires : tie.Need-settled-requires
+settled-requires c κs = tt
+
 returns-2 : tie.Need-returns-2
 unfolding contentsIn
 returns-2 c =
-    let r = c .before in
+    let e = c .before in
+    let r = e .before in
     let f = r .before .before .before .before in
     let n = f .before in
     let b = n .before .before .before .before in
     let a = b .args in
-    let t = rw (toZ-ofZ (b .fits .z)) at (c .with-value .ensures) in
-    reply-accepted (Change (a .x) (a .y) (a .z)) (a .t1) _ _ (rw (toZ-ofZ (b .fits .z)) at (n .of-change .ensures (stateOf (a .t1)) (a .t1 .z) (holds (a .t1)))) (f .if1 .left)
-    (changed (a .t1) (a .x) (a .y) _ (r .find .ensures (a .t1 .z)) (a .z) _ t) (t .plain)
+    let t = rw (toZ-ofZ (b .fits .z)) at (e .with-value .ensures) in
+    reply-accepted (Change (a .x) (a .y) (a .z)) (a .t1) _ _ _ (rw (toZ-ofZ (b .fits .z)) at (n .of-change .ensures (stateOf (a .t1)) (a .t1 .z) (holds (a .t1)))) (f .if1 .left)
+    (changed (a .t1) (a .x) (a .y) _ (r .find .ensures (a .t1 .z)) (a .z) _ t) (t .plain) (c .settled .ensures)
 
 pub change-spec : {M : Type 1} → statement M
 change-spec =
-    tie.close (tie.spec of-change-requires refused-requires returns find-requires with-value-requires returns-2)
+    tie.close (tie.spec of-change-requires refused-requires returns find-requires with-value-requires settled-requires returns-2)

@@ -30,16 +30,20 @@ without-point-requires c κs =
     let a = f .before .before .before .before .before .args in
     drop-within (a .t1) (a .x) (a .y) _ (c .find .ensures (a .t1 .z)) (sym (f .before .of-drop .ensures (stateOf (a .t1)) (a .t1 .z) (holds (a .t1))) ∙ f .if1 .left)
 
+settled-requires : tie.Need-settled-requires
+settled-requires c κs = tt
+
 returns-2 : tie.Need-returns-2
 unfolding contentsIn
 returns-2 c =
-    let r = c .before in
+    let e = c .before in
+    let r = e .before in
     let f = r .before .before .before .before in
     let n = f .before in
     let a = n .before .before .before .before .args in
-    let t = c .without-point .ensures in
-    reply-accepted (Drop (a .x) (a .y)) (a .t1) _ _ (n .of-drop .ensures (stateOf (a .t1)) (a .t1 .z) (holds (a .t1))) (f .if1 .left) (dropped (a .t1) (a .x) (a .y) _ (r .find .ensures (a .t1 .z)) _ t) (t .plain)
+    let t = e .without-point .ensures in
+    reply-accepted (Drop (a .x) (a .y)) (a .t1) _ _ _ (n .of-drop .ensures (stateOf (a .t1)) (a .t1 .z) (holds (a .t1))) (f .if1 .left) (dropped (a .t1) (a .x) (a .y) _ (r .find .ensures (a .t1 .z)) _ t) (t .plain) (c .settled .ensures)
 
 pub drop-spec : {M : Type 1} → statement M
 drop-spec =
-    tie.close (tie.spec of-drop-requires refused-requires returns find-requires without-point-requires returns-2)
+    tie.close (tie.spec of-drop-requires refused-requires returns find-requires without-point-requires settled-requires returns-2)

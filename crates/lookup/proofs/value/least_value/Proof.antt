@@ -8,7 +8,7 @@ use mir.Syntax.{w8}
 use mir.Val.{toZ, SFits}
 use mir.Facts.{toZ-ofZ}
 use borrow.Author.Needs.{needs}
-use Rattle.model.specs.Mean.{valuesBy, lesser}
+use Rattle.model.specs.Extent.{valuesBy, lesser}
 use Rattle.weights.specs.Seen.{pointOf, pointsHeld, noNeighbour}
 use Rattle.laws.proofs.MapLaws.{length-under}
 use Rattle.lookup.proofs.Values.{least-first, least-more}

@@ -2,7 +2,7 @@
 use mathlib.Core.Path.{_∙_}
 use Prim.Native.Nat.{_*_}
 use native.Mathlib.Omega.{arith}
-use lib.IntN.{pos, natAbs, _-ℤ_, _*ℤ_}
+use lib.IntN.{pos, _-ℤ_, _*ℤ_}
 use borrow.Author.Needs.{needs}
 use Rattle.weights.specs.Seen.{innerBetween, excessBetween}
 use Rattle.weights.proofs.Products.{fits-size, scaled-most, excess-most, scaled-is, difference-is, excess-is}

@@ -4,9 +4,9 @@ use mathlib.Core.Bool.{Bool, true, false, cond}
 use lib.IntN.{ℤ}
 use lib.Signed.{leZ}
 use mir.Facts.{toZ-ofZ}
-use Rattle.model.specs.Mean.{lesser}
-use Rattle.lookup.proofs.value.lesser.Statement.{statement}
-use Rattle.lookup.proofs.value.lesser.Tie as tie
+use Rattle.model.specs.Extent.{lesser}
+use Rattle.numbers.proofs.lesser.Statement.{statement}
+use Rattle.numbers.proofs.lesser.Tie as tie
 
 first : (a b : ℤ) → leZ a b ≡ true → a ≡ lesser a b
 first a b h = sym (ap (λ (t : Bool). cond t a b) h)
