@@ -34,7 +34,7 @@ proper few r d D d' r' = go (eqb d 0) few (leb (3 * d) r) (ltb d r) refl
     go false false false true e = (ltb-true d r e, r')
     go false false false false e = tt
 
--- what a lookup goes by: a location in the domain, one point or more, in the domain, whose values are in range where they are chosen, and an R0 that is kept of such points
+-- what a lookup goes by: a location in the domain, one point or more, in the domain, whose values are in range where they are chosen, and a kept R0 of at most 2²⁴, as points in the domain have
 pub record LookupInRange (s : State) (p : Location) : Type 0 where
   pub domain : (p .x < 4096) × (p .y < 4096)
   pub some : 0 < length (s .contents .points)

@@ -60,9 +60,9 @@ module _ (xs ys : List ℕ) (zs : List ℤ) (n m : ℕ) (em : m ≡ min n 256) w
   abbrev points : List Point
   points = pointsIn xs ys zs n
 
-  pub extent-none : (e : Extent) → m ≡ 0 → asExtent e ≡ extentOf (contentsOf []) → e .radius ≤ 2 ^ 24 → (asExtent e ≡ extentOf (contentsOf points)) × (e .radius ≤ 2 ^ 24)
+  pub extent-none : (e : Extent) → m ≡ 0 → asExtent e ≡ extentOf (contentsOf []) → asExtent e ≡ extentOf (contentsOf points)
   unfolding pointsIn held tabulate
-  extent-none e none h g = let k : min n 256 ≡ 0 = omega arith in (rw k h, g)
+  extent-none e none h = let k : min n 256 ≡ 0 = omega arith in rw k h
 
   module _ (some : 0 < m) (e : Extent) (h : EndsOf (pointsIn xs ys zs m) e) where
     ends : EndsOf points e

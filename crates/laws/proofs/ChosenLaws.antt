@@ -27,7 +27,7 @@ abbrev pub Inside : Point → Type 0
 Inside a = (a .x < 4096) × (a .y < 4096)
 
 -- D of a squared distance that fits 32 bits
-pub distance-most : (n : ℕ) → n < 4294967296 → distanceOf n ≤ 2 ^ 24
+distance-most : (n : ℕ) → n < 4294967296 → distanceOf n ≤ 2 ^ 24
 distance-most n h = distance-le-iff n (2 ^ 24) .1 (omega arith)
 
 gap-most : (m n : ℕ) → m < 4096 → n < 4096 → gap m n ≤ 4095

@@ -1,11 +1,10 @@
 -- What is kept of the points: zeros of none; ends that no point is beyond and that are points' own; R0 as document 01 has it, at most 2²⁴ in the domain.
 -- A dropped corner shrinks the rectangle again, where no other point holds its edge.
 use mathlib.Core.Path.{_≡_, refl, ap}
-use mathlib.Core.Logic.{_⊎_, inl, inr}
+use mathlib.Core.Logic.{_⊎_, inl, inr, ⊎-swap}
 use Prim.Native.Nat.{ℕ, _-_, _*_, _/_, _^_, _≤_, _<_, min, max}
 use native.Mathlib.Nat.{not-suc-le-zero, le-refl, mul-le-mul, le-div-iff-mul-le}
-use native.Mathlib.Omega.{arith}
-use native.Mathlib.Decide.{decLe}
+use native.Mathlib.Omega.{arith, min-cases, max-cases}
 use mathlib.Core.Bool.{Bool, true, false, cond}
 use mathlib.Core.List.{List, [], _∷_, map}
 use lib.IntN.{ℤ, pos}
@@ -33,18 +32,14 @@ ends-none q e = rw e
 
 -- min and max, lesser and greater give one of the two
 min-either : (a b : ℕ) → (min a b ≡ a) ⊎ (min a b ≡ b)
-min-either a b = elim (decLe a b) [ yes h ↦ inl (omega arith) | no h ↦ inr (omega arith) ]
+min-either a b = min-cases a b ((min a b ≡ a) ⊎ (min a b ≡ b)) (λ h e. inl e) (λ h e. inr e)
 
 max-either : (a b : ℕ) → (max a b ≡ a) ⊎ (max a b ≡ b)
-max-either a b = elim (decLe a b) [ yes h ↦ inr (omega arith) | no h ↦ inl (omega arith) ]
+max-either a b = max-cases a b ((max a b ≡ a) ⊎ (max a b ≡ b)) (λ h e. inr e) (λ h e. inl e)
 
 cond-either : (t : Bool) (a b : ℤ) → (cond t a b ≡ a) ⊎ (cond t a b ≡ b)
 cond-either true a b = inl refl
 cond-either false a b = inr refl
-
-swap : {P Q : Type 0} → P ⊎ Q → Q ⊎ P
-swap (inl p) = inr p
-swap (inr q) = inl q
 
 -- the least and the greatest of numbers that points have
 module _ (f : Point → ℕ) (l : List Point) where
@@ -85,7 +80,7 @@ module _ (q : Contents) (some : 0 < length (q .points)) where
     least-y = some-map (λ a. a .y) _ l (through-some 0 min min-either (ys q) (some-of (λ a. a .y)));
     greatest-y = some-map (λ a. a .y) _ l (through-some 0 max max-either (ys q) (some-of (λ a. a .y)));
     least-z = some-map (λ a. a .z) _ l (through-some (pos 0) lesser (λ a b. cond-either (leZ a b) a b) (map (λ a. a .z) l) (some-of (λ a. a .z)));
-    greatest-z = some-map (λ a. a .z) _ l (through-some (pos 0) greater (λ a b. swap (cond-either (leZ a b) b a)) (map (λ a. a .z) l) (some-of (λ a. a .z)));
+    greatest-z = some-map (λ a. a .z) _ l (through-some (pos 0) greater (λ a b. ⊎-swap (cond-either (leZ a b) b a)) (map (λ a. a .z) l) (some-of (λ a. a .z)));
     radius = radius-is (area q) (length l) some;
   }
 

@@ -12,7 +12,7 @@ zeros-requires : tie.Need-zeros-requires
 zeros-requires c κs = search needs
 
 returns : tie.Need-returns
-returns c = extent-none _ _ _ _ _ (c .before .before .clamped .ensures) _ (c .before .if1 .taken) (c .zeros .ensures .0) (c .zeros .ensures .1)
+returns c = (extent-none _ _ _ _ _ (c .before .before .clamped .ensures) _ (c .before .if1 .taken) (c .zeros .ensures .0), c .zeros .ensures .1)
 
 ends-of-requires : tie.Need-ends-of-requires
 ends-of-requires c κs = search needs
