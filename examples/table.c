@@ -1,4 +1,5 @@
-/* From points to a table: four points are added to a fresh survey, one is changed, a location is looked up with its neighbours, and a grid is worked out.
+/* From points to a table: four points are added to a fresh survey, one is changed, a location is looked up with its neighbours, and a grid is worked out,
+ * as a grid file and as text for a plotting tool.
  *
  *   rt staticlib shepard
  *   gcc -Iinclude examples/table.c target/staticlib/libshepard.a -o target/table && target/table
@@ -55,6 +56,15 @@ static void grid(void) {
         }
 }
 
+/* The same grid as text. */
+static void esri(void) {
+    static uint8_t text[SHEPARD_ESRI_MOST];
+    size_t written;
+    accept("esri", shepard_esri(survey, length, 0, 0, 1000, 1000, 5, 3, text, sizeof text, &written));
+    printf("Esri ASCII grid of %zu bytes\n", written);
+    fwrite(text, 1, written, stdout);
+}
+
 int main(void) {
     accept("fresh", shepard_fresh(survey, sizeof survey, &length));
     add(100, 200, -3);
@@ -66,5 +76,6 @@ int main(void) {
     printf("twice at one location: refused %u\n", shepard_add(survey, length, 100, 200, 0, edited, sizeof edited, &length));
     lookup(1000, 1000);
     grid();
+    esri();
     return 0;
 }

@@ -18,6 +18,7 @@
  *    4  a change or a drop where no point is
  *    5  an add with 256 points present
  *    7  a grid breaks a rule: steps of at least 1, 1 to 64 columns and rows, the last column and row in the domain
+ *   16  an Esri ASCII grid whose two steps differ
  *    6  a lookup or a grid with no point present
  *    8  what is lent is too short
  *
@@ -38,7 +39,8 @@ extern "C" {
 enum {
     SHEPARD_FILE_MOST = 5 * 256 + 12,           /* bytes of the longest file that is written */
     SHEPARD_RECORDS_LENGTH = 100,               /* bytes to lend for neighbour records: ten of 10 bytes */
-    SHEPARD_GRID_FILE_MOST = 2 * 64 * 64 + 20   /* bytes of the longest grid file */
+    SHEPARD_GRID_FILE_MOST = 2 * 64 * 64 + 20,  /* bytes of the longest grid file */
+    SHEPARD_ESRI_MOST = 14 * 64 * 64 + 90       /* bytes to lend for an Esri ASCII grid, 57,434: none has more */
 };
 
 /* The file of a survey of no points to the front of `out`, and its length. 8. */
@@ -79,6 +81,11 @@ uint8_t shepard_lookup_many(const uint8_t *file, size_t file_length, const uint8
 /* The grid file to the front of `out`, and its length. 9 to 15, 7, 6, 8. */
 uint8_t shepard_grid_file(const uint8_t *file, size_t file_length, uint16_t x0, uint16_t y0, uint16_t step_x, uint16_t step_y,
                           uint16_t columns, uint16_t rows, uint8_t *out, size_t out_length, size_t *length);
+
+/* The Esri ASCII grid to the front of `out`, and its length: text, with no NUL behind it. After the lines ncols, nrows, xllcenter, yllcenter, cellsize and NODATA_value
+ * come the rows, from the highest y down, each cell in register steps with eight decimals, which are exact. 9 to 15, 7, 16, 6, 8. */
+uint8_t shepard_esri(const uint8_t *file, size_t file_length, uint16_t x0, uint16_t y0, uint16_t step_x, uint16_t step_y,
+                     uint16_t columns, uint16_t rows, uint8_t *out, size_t out_length, size_t *length);
 
 #ifdef __cplusplus
 }

@@ -10,6 +10,7 @@ import exact_survey
 import permitted
 from grid_inputs import GridInput
 from journals import Journal
+from operations import BYTES
 from outcomes import Choice, Outcome
 from permitted import Expected, Piece
 from programs import Run, excerpt
@@ -26,11 +27,16 @@ class Difference(Exception):
         self.at = at
 
 
+def one_line(text: str) -> str:
+    return text.replace("\n", "\\n")
+
+
 def check_text(pieces: list[Piece], text: str, trouble: str, at: int | None = None) -> None:
     wrong = permitted.mismatch(pieces, text)
     if wrong is not None:
         came = excerpt(text, wrong) + (f" (position {wrong})" if wrong else "")
-        raise Difference(excerpt(permitted.permitted_text(pieces), wrong), came + trouble, at)
+        expected = excerpt(permitted.permitted_text(pieces), wrong)
+        raise Difference(one_line(expected), one_line(came) + trouble, at)
 
 
 def check_end(run: Run) -> None:
@@ -38,9 +44,9 @@ def check_end(run: Run) -> None:
         raise Difference("an end with exit status 0 and no standard error", run.trouble)
 
 
-def count_cells(counts: Counter[str], outcome: Outcome) -> None:
+def count_cells(counts: Counter[str], outcome: Outcome, name: str = "grid cells") -> None:
     """A cell is an answer in what was lent."""
-    counts["grid cells"] += sum(isinstance(each, Choice) for each in outcome.filled)
+    counts[name] += sum(isinstance(each, Choice) for each in outcome.filled)
 
 
 def count_call(counts: Counter[str], call: Call, expected: Expected) -> None:
@@ -48,22 +54,41 @@ def count_call(counts: Counter[str], call: Call, expected: Expected) -> None:
     counts["damaged files"] += call.damaged
     if expected.outcome is not None and call.operation.counted:
         counts[call.operation.counted] += 1
-        count_cells(counts, expected.outcome)
+        count_cells(counts, expected.outcome, "esri cells" if call.operation.text else "grid cells")
+
+
+def check_shown(call: Call, line: str, trouble: str, at: int) -> None:
+    """A line of bytes shows as many as were lent, however many of them its reply tells."""
+    shown = (len(line) - len(BYTES.word + " ")) // 2 if call.lent else 0
+    if call.operation.lent is BYTES and shown != call.lent:
+        raise Difference(f"{call.lent} bytes", f"{shown} bytes{trouble}", at)
+
+
+def check_call(
+    cases: list[Expected], call: Call, lines: list[str], trouble: str, at: int
+) -> Expected:
+    """Hold a call's lines to the case that its reply tells; gives that case."""
+    check_text(permitted.replies(cases), lines[0], trouble, at)
+    case = permitted.case_with(cases, lines[0])
+    for pieces, line in zip(case.lines[1:], lines[1:]):
+        check_text(pieces, line, trouble, at)
+        check_shown(call, line, trouble, at)
+    return case
 
 
 def check_replies(journal: Journal, run: Run, counts: Counter[str]) -> None:
     """Hold every line that came against what is permitted, call by call."""
     lines = run.output.decode("ascii", "replace").split("\n")
     unended = lines.pop()
+    missing = unended + " (no further line)"
     survey = exact_survey.Survey()
     position = 0
     for at, call in enumerate(journal.calls):
-        expected = permitted.expected(survey, call)
-        for pieces in expected.lines:
-            came = lines[position] if position < len(lines) else unended + " (no further line)"
-            check_text(pieces, came, run.trouble, at)
-            position += 1
-        count_call(counts, call, expected)
+        cases = permitted.expected(survey, call)
+        wanted = len(cases[0].lines)
+        came = [*lines[position : position + wanted], missing, missing][:wanted]
+        count_call(counts, call, check_call(cases, call, came, run.trouble, at))
+        position += wanted
     end = lines[position:] + [unended]
     last = ["bad journal", ""] if journal.bad else [""]
     if end != last:
@@ -91,3 +116,15 @@ def check_grid_file(test: GridInput, run: Run, counts: Counter[str]) -> None:
     check_end(run)
     counts["damaged files"] += test.damaged
     counts["damaged grid inputs"] += test.damaged
+
+
+def check_esri_text(test: GridInput, run: Run, counts: Counter[str]) -> None:
+    try:
+        outcome = exact_survey.esri_program(test.data)
+        pieces = permitted.text_pieces(outcome)
+        counts["esri texts by program"] += 1
+        count_cells(counts, outcome, "esri cells")
+    except exact.Refused as refusal:
+        pieces = [(f"refused {refusal.number}\n",)]
+    check_text(pieces, run.output.decode("ascii", "replace"), run.trouble)
+    check_end(run)

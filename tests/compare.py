@@ -1,4 +1,4 @@
-"""Compares shepard_grid and shepard_replay with what documents 01 and 02 permit."""
+"""Compares shepard_grid, shepard_replay and shepard_esri with what documents 01 and 02 permit."""
 
 from __future__ import annotations
 
@@ -9,12 +9,13 @@ from collections import Counter
 from collections.abc import Iterable, Sequence
 from pathlib import Path
 from random import Random
+from typing import NamedTuple
 
 import generator
 import journals
 import operations
 import protocol
-from checks import Difference, check_grid_file, check_replies
+from checks import Difference, check_esri_text, check_grid_file, check_replies
 from generator import Test
 from grid_inputs import GridInput
 from journals import Journal
@@ -31,10 +32,18 @@ MINIMA = {
     "damaged grid inputs": 300,
     "call lists": 300,
     "grid cells": 10_000,
+    "esri texts by program": LEAST,
+    "esri cells": 10_000,
 }
 MINIMA |= {each.counted: LEAST for each in operations.TABLE if each.counted not in ("", *MINIMA)}
 
 Command = Sequence[str]
+
+
+class Programs(NamedTuple):
+    grid: Command
+    replay: Command
+    esri: Command
 
 
 class Found(Exception):
@@ -86,26 +95,38 @@ def found_in_journal(
     return Found(journal.kind, difference, shown, keep(journals.encode(journal), ".journal"))
 
 
-def found_in_input(test: GridInput, difference: Difference) -> Found:
-    shown = ["input of shepard_grid " + protocol.hexadecimal(test.data)]
+def found_in_input(test: GridInput, difference: Difference, program: str) -> Found:
+    shown = [f"input of {program} {protocol.hexadecimal(test.data)}"]
     return Found(test.kind, difference, shown, keep(test.data, ".survey"))
 
 
-def run_tests(
-    tests: Iterable[Test], grid: Command, replay: Command, seconds: int = SECONDS
-) -> Counter[str]:
+def run_journal(test: Journal, command: Command, seconds: int, counts: Counter[str]) -> None:
+    try:
+        check_journal(test, command, seconds, counts)
+    except Difference as difference:
+        raise found_in_journal(test, difference, command, seconds) from None
+
+
+def run_input(test: GridInput, programs: Programs, seconds: int, counts: Counter[str]) -> None:
+    """Both programs that read such an input are put to it."""
+    for name, command, check in (
+        ("shepard_grid", programs.grid, check_grid_file),
+        ("shepard_esri", programs.esri, check_esri_text),
+    ):
+        try:
+            check(test, run_program(command, test.data, seconds), counts)
+        except Difference as difference:
+            raise found_in_input(test, difference, name) from None
+
+
+def run_tests(tests: Iterable[Test], programs: Programs, seconds: int = SECONDS) -> Counter[str]:
     """The numbers of what was compared; Found comes out at the first difference."""
     counts: Counter[str] = Counter()
     for test in tests:
-        try:
-            if isinstance(test, Journal):
-                check_journal(test, replay, seconds, counts)
-            else:
-                check_grid_file(test, run_program(grid, test.data, seconds), counts)
-        except Difference as difference:
-            if isinstance(test, Journal):
-                raise found_in_journal(test, difference, replay, seconds) from None
-            raise found_in_input(test, difference) from None
+        if isinstance(test, Journal):
+            run_journal(test, programs.replay, seconds, counts)
+        else:
+            run_input(test, programs, seconds, counts)
     return counts
 
 
@@ -123,12 +144,14 @@ def main(arguments: list[str]) -> int:
     parser = argparse.ArgumentParser(description=__doc__)
     parser.add_argument("grid_program")
     parser.add_argument("replay_program")
+    parser.add_argument("esri_program")
     parser.add_argument("--seed", type=int, default=SEED)
     options = parser.parse_args(arguments)
+    commands = (options.grid_program, options.replay_program, options.esri_program)
     sample = GridInput("sample survey", SAMPLE.read_bytes())
     tests = [sample, *generator.make(Random(options.seed))]
     try:
-        counts = run_tests(tests, [options.grid_program], [options.replay_program])
+        counts = run_tests(tests, Programs(*([command] for command in commands)))
     except Found as found:
         print(report(found))
         return 1

@@ -8,7 +8,7 @@ import mixed_calls
 import surveys
 from exact import Point
 from exact_survey import Survey
-from grids import improper_grid, proper_grid
+from grids import improper_grid, like_grid, proper_grid, unlike_grid
 from mixed_calls import WRONG_VALUES, Scene
 from protocol import Call
 from random_calls import entry, with_ends
@@ -63,6 +63,7 @@ def refused(rng: Random, scene: Scene) -> Call:
     calls += [Call("q", off), Call("n", (*off, 10)), Call("n", (x, y, 9))]
     for letter in "gf":
         calls += [Call(letter, (*improper_grid(rng), 0)), Call(letter, (*proper_grid(rng), 0))]
+    calls += [Call("p", (*make(rng), 0)) for make in (improper_grid, unlike_grid, like_grid)]
     if not scene.survey.values:
         calls += [Call("q", (x, y)), Call("n", (x, y, 10))]
     return rng.choice(calls)
@@ -79,7 +80,7 @@ def ends_journal(rng: Random, index: int) -> list[Call]:
     calls = entry(rng, scene.pool) if rng.randrange(4) else []
     for call in calls:
         mixed_calls.follow(scene.survey, call)
-    for _ in range(30):
+    for _ in range(36):
         calls.append(rng.choice(makers)(rng, scene))
         mixed_calls.follow(scene.survey, calls[-1])
     return [Call("e")] + with_ends(calls)

@@ -1,4 +1,4 @@
-"""Works out, from documents 01 and 02 alone, what the survey calls and the grid program give."""
+"""Works out, from documents 01 and 02 alone, what the survey calls and the programs give."""
 
 from __future__ import annotations
 
@@ -6,8 +6,10 @@ from collections.abc import Iterable
 from struct import unpack
 
 import exact
+import exact_esri
 import exact_files
 import metric
+import outcomes
 from exact import (
     GREATEST_VALUE,
     LEAST_VALUE,
@@ -49,6 +51,12 @@ def two_bytes(number: int) -> bytes:
 def answer_bytes(lookup: Lookup) -> Choice:
     permitted = exact.permitted_answers(lookup)
     return Choice(tuple(map(two_bytes, permitted)), two_bytes(exact.nearest_answer(lookup)))
+
+
+def answer_text(lookup: Lookup) -> Choice:
+    permitted = exact.permitted_answers(lookup)
+    nearest = exact_esri.decimal(exact.nearest_answer(lookup))
+    return Choice(tuple(map(exact_esri.decimal, permitted)), nearest)
 
 
 def found(lookup: Lookup, neighbours: tuple[exact.Neighbour, ...] = ()) -> Outcome:
@@ -172,13 +180,34 @@ class Survey:
     def read_ends(self) -> Outcome:
         return Outcome(self.exact_ends())
 
+    def esri_text(self, grid: Grid, lent: int) -> Outcome:
+        """8 comes from here where not even the shortest of the permitted texts would fit."""
+        exact_files.check_grid(grid)
+        exact_esri.check_steps(grid)
+        self.check_any()
+        cells = list(map(answer_text, self.exact_cells(grid)))
+        outcome = Outcome(filled=exact_esri.text(grid, cells), measured=True)
+        check_lent(lent, outcomes.filled_units(outcome)[0])
+        return outcome
 
-def grid_program(data: bytes) -> Outcome:
-    """The grid file, from the whole input."""
+
+def program_input(data: bytes) -> tuple[Survey, Grid]:
+    """The survey and the grid of a program's whole input; the grid's own rules are not tried."""
     survey = Survey()
     survey.load(data)
     preamble = len(data) - TRAILER_BYTES - RECORD_BYTES * len(survey.values)
     if preamble < GRID_NUMBERS_BYTES:
         raise Refused(7)
-    grid = Grid(*unpack(">6H", data[:GRID_NUMBERS_BYTES]))
+    return survey, Grid(*unpack(">6H", data[:GRID_NUMBERS_BYTES]))
+
+
+def grid_program(data: bytes) -> Outcome:
+    """The grid file, from the whole input."""
+    survey, grid = program_input(data)
     return survey.grid_file(grid, GREATEST_FILE)
+
+
+def esri_program(data: bytes) -> Outcome:
+    """The Esri text, from the whole input; it has room for every text."""
+    survey, grid = program_input(data)
+    return survey.esri_text(grid, GREATEST_FILE)

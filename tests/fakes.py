@@ -1,4 +1,4 @@
-"""Runs a stand-in for shepard_replay or shepard_grid, sound or with one planted fault."""
+"""Runs a stand-in for one of the programs, sound or with one planted fault."""
 
 from __future__ import annotations
 
@@ -16,14 +16,13 @@ for source in sorted(Path(__file__).parent.glob("faults_*.py")):
 
 def main(arguments: list[str]) -> None:
     parser = argparse.ArgumentParser(description=__doc__)
-    parser.add_argument("program", choices=("replay", "grid"))
+    parser.add_argument("program", choices=("replay", "grid", "esri"))
     parser.add_argument("--fault", choices=FAULTS)
     options = parser.parse_args(arguments)
     if options.fault:
         FAULTS[options.fault].plant()
     data = sys.stdin.buffer.read()
-    program = stand_ins.replay if options.program == "replay" else stand_ins.grid
-    sys.stdout.buffer.write(program(data))
+    sys.stdout.buffer.write(getattr(stand_ins, options.program)(data))
 
 
 if __name__ == "__main__":

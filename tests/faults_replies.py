@@ -77,9 +77,10 @@ def after_replies(action: Callable[[bytes], bytes]) -> Plant:
     """Something that happens when all replies are worked out."""
 
     def plant() -> None:
-        replay, grid = stand_ins.replay, stand_ins.grid
+        replay, grid, esri = stand_ins.replay, stand_ins.grid, stand_ins.esri
         stand_ins.replay = lambda data: action(replay(data))
         stand_ins.grid = lambda data: action(grid(data))
+        stand_ins.esri = lambda data: action(esri(data))
 
     return plant
 

@@ -1,4 +1,4 @@
-"""Makes the tests of a seed: lists of calls for shepard_replay and inputs for shepard_grid."""
+"""Makes the tests of a seed: lists of calls for shepard_replay and inputs for the programs."""
 
 from __future__ import annotations
 
@@ -8,6 +8,7 @@ from random import Random
 
 import bad_journals
 import ends_journals
+import esri_journals
 import grid_inputs
 import journals
 import mixed_calls
@@ -15,7 +16,7 @@ from grid_inputs import GridInput
 from journals import Journal
 from protocol import Call
 
-# What one test is made of: a journal's calls, or an input of shepard_grid.
+# What one test is made of: a journal's calls, or an input of shepard_grid and shepard_esri.
 Maker = Callable[[Random, int], list[Call] | bytes]
 Test = Journal | GridInput
 
@@ -29,6 +30,9 @@ JOURNALS = (
     ("grids", journals.grid_journal, 70),
     ("widest grid", journals.widest_grid_journal, 2),
     ("bad journal", bad_journals.bad_journal, 60),
+    ("esri texts", esri_journals.esri_journal, 90),
+    ("widest esri texts", esri_journals.widest_esri_journal, 2),
+    ("free lengths", esri_journals.free_journal, 40),
 )
 GRID_INPUTS = (
     ("whole case", grid_inputs.whole_case, 2),
@@ -36,6 +40,8 @@ GRID_INPUTS = (
     ("empty surveys", grid_inputs.empty_input, 24),
     ("short preambles", grid_inputs.short_preamble_input, 20),
     ("damaged grid inputs", grid_inputs.damaged_input, 340),
+    ("esri inputs", grid_inputs.like_input, 220),
+    ("unlike steps", grid_inputs.unlike_input, 36),
 )
 
 

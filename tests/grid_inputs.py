@@ -1,4 +1,4 @@
-"""Makes inputs for shepard_grid: sound ones, empty surveys, short preambles and damaged files."""
+"""Makes inputs for the grid and the Esri program: sound, empty, damaged, with short preambles."""
 
 from __future__ import annotations
 
@@ -8,12 +8,22 @@ from typing import NamedTuple
 
 import damage
 import exact
+import free_rounding
 import surveys
-from grids import grid_near, improper_grid, proper_grid
+from grids import (
+    grid_near,
+    improper_grid,
+    improper_unlike_grid,
+    like_grid,
+    like_grid_near,
+    proper_grid,
+    unlike_grid,
+    widest_grid,
+)
 
 
 class GridInput(NamedTuple):
-    """A whole standard input of shepard_grid."""
+    """A whole standard input of shepard_grid and of shepard_esri."""
 
     kind: str
     data: bytes
@@ -45,10 +55,31 @@ def sound_input(rng: Random, index: int) -> bytes:
     return damage.assemble(preamble, damage.records_of(points))
 
 
+def like_input(rng: Random, index: int) -> bytes:
+    """Two steps alike: around a point, anywhere, rounded either way, and at first the widest."""
+    points, _ = surveys.make(rng, surveys.KINDS[index % len(surveys.KINDS)])
+    numbers = like_grid(rng) if index % 4 == 1 else like_grid_near(rng, points)
+    if index % 3:
+        points = surveys.with_narrow_values(rng, points)
+    if index % 8 == 4:
+        points, numbers = free_rounding.make(rng)
+    if index == 0:
+        points, numbers = [exact.Point(4095, 4095, -128)], widest_grid(rng)
+    preamble = pack(">6H", *numbers) + damage.random_preamble(rng)
+    return damage.assemble(preamble, damage.records_of(points))
+
+
+def unlike_input(rng: Random, index: int) -> bytes:
+    """Two steps that differ, of a survey and of no points; every other grid breaks a rule too."""
+    points, _ = surveys.make(rng, surveys.KINDS[index % len(surveys.KINDS)])
+    numbers = improper_unlike_grid(rng) if index % 2 else unlike_grid(rng)
+    return damage.assemble(pack(">6H", *numbers), damage.records_of(points if index % 3 else []))
+
+
 def empty_input(rng: Random, index: int) -> bytes:
     """No record: 6, unless the grid or the preamble is at fault."""
-    preamble = grid_preamble(rng) if index % 2 else pack(">6H", *proper_grid(rng))
-    return damage.assemble(preamble, [])
+    numbers = like_grid(rng) if index % 4 == 2 else proper_grid(rng)
+    return damage.assemble(grid_preamble(rng) if index % 2 else pack(">6H", *numbers), [])
 
 
 def damaged_input(rng: Random, index: int) -> bytes:

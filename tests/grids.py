@@ -11,15 +11,29 @@ from exact import Point
 Side = tuple[int, int, int]
 Numbers = tuple[int, int, int, int, int, int]
 
+COUNTS = (1, 1, 2, 3, 3, 4, 6, 9)
 
-def proper_side(rng: Random) -> Side:
-    """The last on the domain, often on its last line."""
-    count = rng.choice((1, 1, 2, 3, 3, 4, 6, 9))
+
+def proper_step(rng: Random, count: int) -> int:
+    """One with which so many fit on the domain; of one alone any does."""
     if count == 1:
-        return rng.choice((0, 4095, rng.randrange(4096))), rng.choice((1, 4096, 65_535)), 1
-    step = rng.choice((1, 1, 2, 7, rng.randint(1, 4095 // (count - 1))))
+        return rng.choice((1, 4096, 65_535))
+    return rng.choice((1, 1, 2, 7, rng.randint(1, 4095 // (count - 1))))
+
+
+def side_with(rng: Random, step: int, count: int) -> Side:
+    """The last on the domain, often on its last line."""
     last = 4095 - (count - 1) * step
     return rng.choice((0, last, rng.randint(0, last))), step, count
+
+
+def proper_side(rng: Random) -> Side:
+    count = rng.choice(COUNTS)
+    return side_with(rng, proper_step(rng, count), count)
+
+
+def single_side(rng: Random) -> Side:
+    return side_with(rng, proper_step(rng, 1), 1)
 
 
 def full_side(rng: Random) -> Side:
@@ -61,6 +75,27 @@ def proper_grid(rng: Random) -> Numbers:
     return grid_of(proper_side(rng), proper_side(rng))
 
 
+def like_grid(rng: Random) -> Numbers:
+    """A proper grid with two steps alike."""
+    columns, rows = rng.choice(COUNTS), rng.choice(COUNTS)
+    step = proper_step(rng, max(columns, rows))
+    return grid_of(side_with(rng, step, columns), side_with(rng, step, rows))
+
+
+def widest_grid(rng: Random) -> Numbers:
+    """64 columns and 64 rows, with two steps alike, and every number as long as it can be."""
+    step = rng.randint(10, 49)
+    start = rng.randint(1000, 4095 - 63 * step)
+    return grid_of((start, step, 64), (4095 - 63 * step, step, 64))
+
+
+def unlike_grid(rng: Random) -> Numbers:
+    """A proper grid with two steps that differ, often of one column, one row or one cell."""
+    sides = (proper_side, single_side)
+    numbers = grid_of(rng.choice(sides)(rng), rng.choice(sides)(rng))
+    return numbers if numbers[2] != numbers[3] else unlike_grid(rng)
+
+
 def improper_grid(rng: Random) -> Numbers:
     return grid_of(
         *rng.choice(
@@ -73,11 +108,24 @@ def improper_grid(rng: Random) -> Numbers:
     )
 
 
+def improper_unlike_grid(rng: Random) -> Numbers:
+    """One that breaks a rule, with two steps that differ."""
+    numbers = improper_grid(rng)
+    return numbers if numbers[2] != numbers[3] else improper_unlike_grid(rng)
+
+
+def side_near(rng: Random, at: int, step: int) -> Side:
+    count = rng.randint(1, 5)
+    return max(0, min(at - step, 4095 - (count - 1) * step)), step, count
+
+
 def grid_near(rng: Random, points: Sequence[Point]) -> Numbers:
     """A proper grid around a point, so that near points shape the cells."""
-    point = rng.choice(points)
-    sides = []
-    for at in point[:2]:
-        count, step = rng.randint(1, 5), rng.randint(1, 3)
-        sides.append((max(0, min(at - step, 4095 - (count - 1) * step)), step, count))
-    return grid_of(*sides)
+    x, y, _ = rng.choice(points)
+    return grid_of(side_near(rng, x, rng.randint(1, 3)), side_near(rng, y, rng.randint(1, 3)))
+
+
+def like_grid_near(rng: Random, points: Sequence[Point]) -> Numbers:
+    """A proper grid around a point, with two steps alike."""
+    (x, y, _), step = rng.choice(points), rng.randint(1, 3)
+    return grid_of(side_near(rng, x, step), side_near(rng, y, step))

@@ -14,10 +14,10 @@ import protocol
 import surveys
 from exact import Point
 from exact_survey import Survey
-from grids import improper_grid, proper_grid
+from grids import improper_grid, like_grid, like_grid_near, proper_grid, unlike_grid
 from metric import Location
 from protocol import Call
-from random_calls import ANY_SURVEY, grid_calls, lent_about, lookup_call
+from random_calls import ANY_SURVEY, esri_call, grid_calls, lent_about, lookup_call
 
 WRONG_VALUES = (-129, 128, 255, 256, 300, -256, 2**31 - 1, -(2**31))
 
@@ -91,6 +91,12 @@ def mixed_ends(rng: Random, scene: Scene) -> Call:
     return Call("e")
 
 
+def mixed_esri(rng: Random, scene: Scene) -> Call:
+    others = [maker(rng) for maker in (like_grid, unlike_grid, improper_grid)]
+    near = [like_grid_near(rng, scene.pool) for _ in range(3)]
+    return esri_call(rng, scene.survey, rng.choice(near + others))
+
+
 class Generator(NamedTuple):
     """How often a call comes, what makes it, and whether only every other list has it."""
 
@@ -110,6 +116,7 @@ GENERATORS = {
     "g": Generator(1, mixed_grid),
     "f": Generator(1, mixed_grid),
     "e": Generator(4, mixed_ends),
+    "p": Generator(2, mixed_esri),
     "k": Generator(1, mixed_clear, seldom=True),
 }
 
@@ -125,9 +132,10 @@ def calls_on_none(rng: Random) -> list[Call]:
     """Calls that a survey without points refuses, for several reasons at once."""
     calls = [Call("n", (*surveys.off_domain(rng), 9)), Call("q", (4095, 4095))]
     calls += [Call("n", (0, 7, lent)) for lent in (0, 9, 10)]
-    calls += [Call(letter, (*improper_grid(rng), 0)) for letter in "gf"]
+    calls += [Call(letter, (*improper_grid(rng), 0)) for letter in "gfp"]
     calls += [Call(letter, (*proper_grid(rng), lent)) for letter in "gf" for lent in (0, 4096)]
-    return rng.sample(calls, 3)
+    calls += [Call("p", (*maker(rng), 0)) for maker in (like_grid, unlike_grid)]
+    return rng.sample(calls, 4)
 
 
 def mixed_journal(rng: Random, index: int) -> list[Call]:

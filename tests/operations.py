@@ -42,7 +42,10 @@ CELLS = Lent("values", 8_192, -23131)
 
 
 class Operation(NamedTuple):
-    """A call; `counted` is the name under which its accepted calls are counted, if they are."""
+    """A call; `counted` is the name under which its accepted calls are counted, if they are.
+
+    What a call fills is bytes, cells or records; of bytes, `text` tells that they are lines.
+    """
 
     letter: str
     name: str
@@ -51,6 +54,7 @@ class Operation(NamedTuple):
     lent: Lent | None = None
     alters: bool = False
     file: bool = False
+    text: bool = False
     counted: str = ""
 
     @property
@@ -82,5 +86,6 @@ TABLE = (
     Operation("g", "grid", (SIX,), "cells", CELLS, counted="grids"),
     Operation("f", "grid file", (SIX,), "wrote", BYTES, counted="grid files"),
     Operation("e", "read ends", (), "ends", counted="ends"),
+    Operation("p", "esri text", (SIX,), "wrote", BYTES, text=True, counted="esri texts"),
 )
 BY_LETTER = {operation.letter: operation for operation in TABLE}

@@ -16,10 +16,15 @@ class Choice(NamedTuple):
 
 
 class Outcome(NamedTuple):
-    """`numbers` follow the reply's word; `filled` is the start of what was lent."""
+    """`numbers` follow the reply's word; `filled` is the start of what was lent.
+
+    The number of a `measured` outcome is how many lent units it fills, which hangs on the options
+    that come; where too few are lent for these, it is refused with 8.
+    """
 
     numbers: tuple[Unit | Choice, ...] = ()
     filled: tuple[Unit | Choice, ...] = ()
+    measured: bool = False
 
 
 ACCEPTED = Outcome()
@@ -45,3 +50,22 @@ def text(unit: Unit) -> str:
 def lent_units(unit: Unit) -> int:
     """How many lent units a unit takes."""
     return len(unit) if isinstance(unit, bytes) else 1
+
+
+def filled_units(outcome: Outcome) -> list[int]:
+    """How many lent units may be filled, ascending."""
+    totals = {0}
+    for each in outcome.filled:
+        sizes = {lent_units(option) for option in options(each)}
+        totals = {total + size for total in totals for size in sizes}
+    return sorted(totals)
+
+
+def preferred_units(outcome: Outcome) -> int:
+    """How many lent units are filled where every choice is the preferred one."""
+    return sum(lent_units(preferred(each)) for each in outcome.filled)
+
+
+def with_units(outcome: Outcome, units: int) -> Outcome:
+    """A measured outcome where so many lent units are filled; any other as it is."""
+    return outcome._replace(numbers=(units,), measured=False) if outcome.measured else outcome

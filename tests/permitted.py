@@ -16,7 +16,7 @@ Piece = tuple[str, ...]
 
 
 class Expected(NamedTuple):
-    """The permitted lines of a call, each as pieces, and what it gives, if it is accepted."""
+    """What may come of a call: its lines, each as pieces, and what it gives, if accepted."""
 
     lines: list[list[Piece]]
     outcome: Outcome | None
@@ -35,38 +35,60 @@ def file_pieces(outcome: Outcome) -> list[Piece]:
     return [piece(each) for each in outcome.filled]
 
 
-def filled_units(outcome: Outcome) -> list[int]:
-    """How many lent units may be filled, ascending."""
-    totals = {0}
-    for each in outcome.filled:
-        sizes = {outcomes.lent_units(option) for option in outcomes.options(each)}
-        totals = {total + size for total in totals for size in sizes}
-    return sorted(totals)
+def text_pieces(outcome: Outcome) -> list[Piece]:
+    """The bytes of a text, as they read."""
+    return [tuple(option.decode() for option in outcomes.options(each)) for each in outcome.filled]
 
 
-def lent_pieces(call: Call, outcome: Outcome) -> list[Piece]:
-    """The line that shows what was lent; no outcome fills nothing."""
+def lent_pieces(call: Call, outcome: Outcome, units: int) -> list[Piece]:
+    """The line that shows what was lent, with so many units filled; no outcome fills nothing."""
     lent = call.operation.lent
     assert lent is not None
     packed = isinstance(lent.untouched, bytes)
     before = "" if packed else " "
     opening = lent.word + (" " if packed and call.lent else "")
-    untouched = before + outcomes.text(lent.untouched)
-    tails = tuple(untouched * (call.lent - units) for units in filled_units(outcome))
-    return [(opening,), *(piece(each, before) for each in outcome.filled), tails]
+    tail = (before + outcomes.text(lent.untouched)) * (call.lent - units)
+    return [(opening,), *(piece(each, before) for each in outcome.filled), (tail,)]
 
 
-def expected(survey: Survey, call: Call) -> Expected:
-    """The permitted reply to a call and, where it lends, the permitted line of what was lent."""
-    outcome = None
+def refused(call: Call, number: int) -> Expected:
+    reply = [(f"refused {number}",)]
+    if call.operation.lent is None:
+        return Expected([reply], None)
+    return Expected([reply, lent_pieces(call, outcomes.ACCEPTED, 0)], None)
+
+
+def accepted(call: Call, outcome: Outcome, units: int) -> Expected:
+    """What may come with so many lent units filled."""
+    settled = outcomes.with_units(outcome, units)
+    reply = reply_pieces(call.operation.reply, settled)
+    if call.operation.lent is None:
+        return Expected([reply], settled)
+    return Expected([reply, lent_pieces(call, settled, units)], settled)
+
+
+def expected(survey: Survey, call: Call) -> list[Expected]:
+    """All that may come of a call, each with a reply of its own: of most calls one."""
     try:
         outcome = protocol.perform(survey, call)
-        reply = reply_pieces(call.operation.reply, outcome)
     except exact.Refused as refusal:
-        reply = [(f"refused {refusal.number}",)]
-    if call.operation.lent is None:
-        return Expected([reply], outcome)
-    return Expected([reply, lent_pieces(call, outcome or outcomes.ACCEPTED)], outcome)
+        return [refused(call, refusal.number)]
+    lengths = outcomes.filled_units(outcome)
+    fitting = [units for units in lengths if units <= call.lent]
+    cases = [accepted(call, outcome, units) for units in fitting]
+    return cases if fitting == lengths else [*cases, refused(call, 8)]
+
+
+def replies(cases: list[Expected]) -> list[Piece]:
+    """The replies of all cases, as the pieces of one line."""
+    if len(cases) == 1:
+        return cases[0].lines[0]
+    return [tuple(permitted_text(case.lines[0]) for case in cases)]
+
+
+def case_with(cases: list[Expected], reply: str) -> Expected:
+    """The case that has a reply, which is one of the permitted ones."""
+    return next(case for case in cases if mismatch(case.lines[0], reply) is None)
 
 
 def mismatch(pieces: list[Piece], text: str) -> int | None:

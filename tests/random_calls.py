@@ -1,4 +1,4 @@
-"""Makes random calls: lookups, grids, and those after which given points are present."""
+"""Makes random calls: lookups, grids, texts, and those after which given points are present."""
 
 from __future__ import annotations
 
@@ -6,9 +6,12 @@ from collections.abc import Iterable, Sequence
 from random import Random
 
 import damage
+import outcomes
 import protocol
 import surveys
-from exact import Point
+from exact import Point, Refused
+from exact_files import Grid
+from exact_survey import Survey
 from grids import Numbers
 from metric import Location
 from operations import BYTES, CELLS
@@ -17,6 +20,10 @@ from protocol import Call
 # Enough lent bytes for the file of any survey, and for that of any grid.
 ANY_SURVEY = 256 * 5 + 12
 ANY_GRID = 2 * 64 * 64 + 20
+# The shortest Esri text, and the longest: 64 × 64 cells of a sign and three digits, numbers of the
+# origin with four digits and a step with two.
+SHORTEST_TEXT = 81
+LONGEST_TEXT = 79 + 64 * 64 * 14
 
 
 def lookup_call(rng: Random, location: Location) -> Call:
@@ -73,3 +80,18 @@ def grid_calls(rng: Random, numbers: Numbers) -> list[Call]:
     grid = Call("g", (*numbers, lent_about(rng, cells, CELLS.most)))
     file = Call("f", (*numbers, lent_about(rng, 2 * cells + 20, BYTES.most)))
     return rng.sample((grid, file), rng.choice((1, 2, 2)))
+
+
+def esri_length(survey: Survey, numbers: Numbers) -> int:
+    """The length of a grid's Esri text, or that of the shortest where it is refused."""
+    try:
+        return outcomes.preferred_units(survey.esri_text(Grid(*numbers), BYTES.most))
+    except Refused:
+        return SHORTEST_TEXT
+
+
+def esri_call(rng: Random, survey: Survey, numbers: Numbers) -> Call:
+    """The Esri text, lent about what it needs, at times the most that may be lent."""
+    if rng.randrange(12) == 0:
+        return Call("p", (*numbers, BYTES.most))
+    return Call("p", (*numbers, lent_about(rng, esri_length(survey, numbers), BYTES.most)))

@@ -1,8 +1,8 @@
-"""Stands in for shepard_replay and shepard_grid with the answers of the exact-fraction program."""
+"""Stands in for the three programs with the answers of the exact-fraction program."""
 
 from __future__ import annotations
 
-from collections.abc import Sequence
+from collections.abc import Callable, Sequence
 from struct import unpack
 
 import exact
@@ -31,8 +31,11 @@ def fill(operation: Operation, lent: list[Unit], filled: Sequence[Unit]) -> None
 def act(survey: Survey, call: Call, lent: list[Unit]) -> str:
     """Do a call; gives its reply."""
     outcome = protocol.perform(survey, call)
-    fill(call.operation, lent, single_units(outcome))
-    numbers = [outcomes.text(outcomes.preferred(number)) for number in outcome.numbers]
+    units = single_units(outcome)
+    exact_survey.check_lent(len(lent), len(units))
+    fill(call.operation, lent, units)
+    settled = outcomes.with_units(outcome, len(units))
+    numbers = [outcomes.text(outcomes.preferred(number)) for number in settled.numbers]
     return " ".join([call.operation.reply, *numbers])
 
 
@@ -84,9 +87,18 @@ def replay(data: bytes) -> bytes:
     return "".join(line + "\n" for line in lines).encode()
 
 
-def grid(data: bytes) -> bytes:
+def written(program: Callable[[bytes], Outcome], data: bytes) -> bytes:
+    """What a program writes, or why its input is refused."""
     try:
-        outcome = exact_survey.grid_program(data)
+        outcome = program(data)
     except exact.Refused as refusal:
         return f"refused {refusal.number}\n".encode()
     return b"".join(map(outcomes.preferred, outcome.filled))
+
+
+def grid(data: bytes) -> bytes:
+    return written(exact_survey.grid_program, data)
+
+
+def esri(data: bytes) -> bytes:
+    return written(exact_survey.esri_program, data)

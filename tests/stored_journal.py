@@ -95,6 +95,20 @@ def grids() -> list[Call]:
     return calls + calls_of("g", (4094, 4095, 1, 9, 2, 1, 2))
 
 
+def esri_texts() -> list[Call]:
+    """7, 16, 6 and 8 in this order, the tail of longer bytes; signs, 0, the highest y first."""
+    unlike, improper = (0, 0, 1, 2, 1, 1), (0, 0, 0, 1, 2, 1)
+    calls = [Call("k"), *calls_of("p", (*improper, 3), (*unlike, 3), (*GRID, 3), (*GRID, 0))]
+    calls += [Call("a", (3, 0, -7))]
+    calls += calls_of("p", (*GRID, 94), (*GRID, 93), (*GRID, 97), (*GRID, 0))
+    calls += calls_of("p", (*improper, 2), (*unlike, 2), (4095, 0, 1, 2, 2, 1, 2))
+    calls += calls_of("p", (4095, 4095, 65_535, 65_535, 1, 1, 92), (0, 0, 1, 65_535, 1, 1, 92))
+    calls += [Call("k"), *calls_of("a", (0, 0, 0), (10, 0, -1), (0, 10, 127), (10, 10, -128))]
+    calls += calls_of("p", (0, 0, 10, 10, 2, 2, 122), (0, 0, 5, 5, 3, 3, 200))
+    calls += [Call("k"), *calls_of("a", (1, 0, 0), (16, 0, -1)), Call("p", (*GRID, 93))]
+    return calls + [Call("w", (22,))]
+
+
 def ends() -> list[Call]:
     """The ends after each call: of none to four points, of refused calls, of all that alter."""
     calls = [Call("k"), *calls_of("a", (0, 0, 5), (4095, 4095, -128), (0, 4095, 127), (4095, 0, 1))]
@@ -108,8 +122,8 @@ def ends() -> list[Call]:
 
 
 def make() -> journals.Journal:
-    calls = [Call("e")] + on_none() + on_two() + files() + on_full() + rows() + grids() + ends()
-    return journals.Journal("stored", calls, BAD_END)
+    calls = [Call("e")] + on_none() + on_two() + files() + on_full() + rows() + grids()
+    return journals.Journal("stored", calls + esri_texts() + ends(), BAD_END)
 
 
 if __name__ == "__main__":

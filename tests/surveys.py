@@ -14,6 +14,8 @@ SIDE = exact.GREATEST_COORDINATE + 1
 COUNTS = (1, 2, 3, 4, 5, 5, 6, 7, 8, 9, 10, 11, 12, 13, 16, 20, 25, 32, 50, 90)
 # The locations of a survey, and those to aim lookups at.
 Made = tuple[list[Location], list[Location]]
+# Values between which the text of a mean changes its sign or its length, or is longest.
+NARROW = ((-1, 0), (-1, 0, 1), (-10, -9), (9, 10), (-100, -99), (99, 100), (-128, -100))
 # π to 18 decimals, to find the surveys whose radius would differ under it.
 PI = (3_141_592_653_589_793_238, 10**18)
 
@@ -48,6 +50,12 @@ def with_values(rng: Random, locations: Iterable[Location]) -> list[Point]:
         )[manner]
         points.append(Point(x, y, z))
     return points
+
+
+def with_narrow_values(rng: Random, points: Iterable[Point]) -> list[Point]:
+    """The points with values whose means have a whole part of 0, or one that gains a digit."""
+    values = rng.choice(NARROW)
+    return [point._replace(z=rng.choice(values)) for point in points]
 
 
 def uniform(rng: Random) -> Made:

@@ -9,27 +9,38 @@ import sys
 import tempfile
 import unittest
 from collections import Counter
+from collections.abc import Callable, Iterator
 from random import Random
+from unittest import mock
 
+import checks
 import compare
 import exact
 import exact_survey
 import generator
+import grid_inputs
+import journals
 import operations
 import permitted
 import protocol
 import stand_ins
+from exact import Lookup
 from fakes import FAULTS
 from generator import Test
 from grid_inputs import GridInput
 from journals import Journal
+from operations import BYTES
+from permitted import Expected
+from programs import Run
+from random_calls import LONGEST_TEXT
 
 FAKES = str(pathlib.Path(__file__).with_name("fakes.py"))
 # The parts of a whole run that sound and faulty programs are put to; a faulty one stops early.
 SOUND_PART, FAULTY_PART = 16, 4
 SECONDS = 20
 SHORT_SECONDS = 2
-FEWEST_FAULTS = 64
+FEWEST_FAULTS = 112
+ESRI_KINDS = ("esri texts", "widest esri texts", "free lengths")
 # What each call can be refused with.
 REFUSALS = {
     "add": (1, 2, 3, 5),
@@ -41,11 +52,16 @@ REFUSALS = {
     "lookup with neighbours": (1, 6, 8),
     "grid": (7, 6, 8),
     "grid file": (7, 6, 8),
+    "esri text": (7, 16, 6, 8),
 }
 
 
 def command(program: str, fault: str | None = None) -> list[str]:
     return [sys.executable, FAKES, program] + (["--fault", fault] if fault else [])
+
+
+def programs(fault: str | None = None) -> compare.Programs:
+    return compare.Programs(*(command(name, fault) for name in compare.Programs._fields))
 
 
 def part_of_run(divisor: int) -> list[Test]:
@@ -55,7 +71,7 @@ def part_of_run(divisor: int) -> list[Test]:
 class SoundPrograms(unittest.TestCase):
     def test_pass(self) -> None:
         tests = part_of_run(SOUND_PART)
-        counts = compare.run_tests(tests, command("grid"), command("replay"), SECONDS)
+        counts = compare.run_tests(tests, programs(), SECONDS)
         for name in compare.MINIMA:
             self.assertGreater(counts[name], 0, name)
 
@@ -73,10 +89,97 @@ class Faults(unittest.TestCase):
     def assert_caught(self, tests: list[Test], fault: str) -> None:
         seconds = SHORT_SECONDS if fault == "hang" else SECONDS
         with self.assertRaises(compare.Found) as caught:
-            compare.run_tests(tests, command("grid", fault), command("replay", fault), seconds)
+            compare.run_tests(tests, programs(fault), seconds)
         path = pathlib.Path(caught.exception.path)
         self.assertTrue(path.exists())
         path.unlink()
+
+
+class FreeRounding(unittest.TestCase):
+    """Two points between whose values a mean is so near a midpoint that 0 and -1 may come."""
+
+    POINTS = (protocol.Call("a", (100, 0, 0)), protocol.Call("a", (2260, 0, -1)))
+    HEADER = "ncols 1\nnrows 1\nxllcenter 0\nyllcenter 0\ncellsize 1\nNODATA_value -9999\n"
+    SHORT, LONG = f"{HEADER}0.00000000\n".encode(), f"{HEADER}-0.00390625\n".encode()
+
+    def passes(self, lent: int, reply: str, filled: bytes, tail: int) -> bool:
+        """Whether these may come: a reply, and a line of so many filled and untouched bytes."""
+        call = protocol.Call("p", (0, 0, 1, 1, 1, 1, lent))
+        line = "bytes " + filled.hex() + "a5" * tail
+        output = f"ok\nok\n{reply}\n{line}\n".encode()
+        try:
+            checks.check_replies(Journal("free", [*self.POINTS, call]), Run(output, ""), Counter())
+        except checks.Difference:
+            return False
+        return True
+
+    def test_either_text_with_its_own_length(self) -> None:
+        self.assertEqual((len(self.SHORT), len(self.LONG)), (81, 82))
+        for lent in (82, 83, 100):
+            self.assertTrue(self.passes(lent, "wrote 81", self.SHORT, lent - 81))
+            self.assertTrue(self.passes(lent, "wrote 82", self.LONG, lent - 82))
+            self.assertFalse(self.passes(lent, "refused 8", b"", lent))
+
+    def test_the_length_of_the_other_text(self) -> None:
+        for lent in (82, 83, 100):
+            self.assertFalse(self.passes(lent, "wrote 82", self.SHORT, lent - 81))
+            self.assertFalse(self.passes(lent, "wrote 81", self.LONG, lent - 82))
+            self.assertFalse(self.passes(lent, "wrote 82", self.SHORT, lent - 82))
+            self.assertFalse(self.passes(lent, "wrote 81", self.LONG, lent - 81))
+
+    def test_no_other_text_or_length(self) -> None:
+        other = f"{self.HEADER}0.00390625\n".encode()
+        self.assertFalse(self.passes(100, "wrote 81", other, 19))
+        for length in (80, 83, 8, 811):
+            self.assertFalse(self.passes(100, f"wrote {length}", self.SHORT, 19))
+
+    def test_at_the_margin(self) -> None:
+        """With 81 bytes lent the short text fits; a program that means the long one refuses."""
+        self.assertTrue(self.passes(81, "wrote 81", self.SHORT, 0))
+        self.assertTrue(self.passes(81, "refused 8", b"", 81))
+        self.assertFalse(self.passes(81, "refused 8", b"n", 80))
+        self.assertFalse(self.passes(81, "wrote 82", self.LONG, 0))
+        self.assertFalse(self.passes(81, "wrote 81", self.LONG, 0))
+        self.assertFalse(self.passes(81, "refused 6", b"", 81))
+
+    def test_below_it(self) -> None:
+        self.assertTrue(self.passes(80, "refused 8", b"", 80))
+        self.assertFalse(self.passes(80, "wrote 81", self.SHORT, 0))
+
+    def test_counted_as_it_came(self) -> None:
+        """Where both may come, a refusal is no text that was compared."""
+        call = protocol.Call("p", (0, 0, 1, 1, 1, 1, 81))
+        journal = Journal("free", [*self.POINTS, call])
+        for reply, line, texts in (("wrote 81", self.SHORT.hex(), 1), ("refused 8", "a5" * 81, 0)):
+            counts = Counter()
+            output = f"ok\nok\n{reply}\nbytes {line}\n".encode()
+            checks.check_replies(journal, Run(output, ""), counts)
+            self.assertEqual((counts["esri texts"], counts["esri cells"]), (texts, texts))
+
+    def test_all_told(self) -> None:
+        """A difference names every permitted reply."""
+        output = b"ok\nok\nwrote 80\nbytes " + self.SHORT.hex().encode() + b"\n"
+        call = protocol.Call("p", (0, 0, 1, 1, 1, 1, 81))
+        with self.assertRaises(checks.Difference) as caught:
+            checks.check_replies(Journal("free", [*self.POINTS, call]), Run(output, ""), Counter())
+        self.assertEqual(caught.exception.expected, "(wrote 81 or refused 8)")
+
+    def assert_rounding_passes(self, nearest: Callable[[Lookup], int]) -> None:
+        """Put in place of the nearest answer, in all tests but the widest."""
+        for test in [each for each in part_of_run(SOUND_PART) if "widest" not in each.kind]:
+            if isinstance(test, Journal):
+                with mock.patch.object(exact, "nearest_answer", nearest):
+                    run = Run(stand_ins.replay(journals.encode(test)), "")
+                checks.check_replies(test, run, Counter())
+            else:
+                with mock.patch.object(exact, "nearest_answer", nearest):
+                    runs = Run(stand_ins.grid(test.data), ""), Run(stand_ins.esri(test.data), "")
+                checks.check_grid_file(test, runs[0], Counter())
+                checks.check_esri_text(test, runs[1], Counter())
+
+    def test_programs_that_round_up_or_down_pass(self) -> None:
+        self.assert_rounding_passes(lambda lookup: exact.permitted_answers(lookup)[0])
+        self.assert_rounding_passes(lambda lookup: exact.permitted_answers(lookup)[-1])
 
 
 class Report(unittest.TestCase):
@@ -89,9 +192,8 @@ class Report(unittest.TestCase):
             protocol.Call("q", (0, 1)),
             protocol.Call("k"),
         ]
-        replay = command("replay", "answer floored")
         with self.assertRaises(compare.Found) as caught:
-            compare.run_tests([Journal("report", calls)], command("grid"), replay, SECONDS)
+            compare.run_tests([Journal("report", calls)], programs("answer floored"), SECONDS)
         found = caught.exception
         path = pathlib.Path(found.path)
         kept = b"".join(map(protocol.encode, [calls[0], calls[2], calls[3]]))
@@ -100,6 +202,19 @@ class Report(unittest.TestCase):
         self.assertEqual(found.shown, ["add 3 0 0", "add 6 0 90", "lookup 0 1"])
         for text in ("add 6 0 90", "expected: found ", "came:     found ", found.path):
             self.assertIn(text, compare.report(found))
+
+    def test_names_the_program(self) -> None:
+        """An input is put to both programs that read it; a text is told on one line."""
+        test = GridInput("report", grid_inputs.whole_case(Random(0), 0))
+        for fault, name, told in (
+            ("seven decimals", "shepard_esri", "NODATA_value -9999\\n-7.00000000 -7.00000000\\n"),
+            ("answer plus one", "shepard_grid", "f900f90000000000000100010002000100000004524c4731"),
+        ):
+            with self.assertRaises(compare.Found) as caught:
+                compare.run_tests([test], programs(fault), SECONDS)
+            pathlib.Path(caught.exception.path).unlink()
+            self.assertEqual(caught.exception.shown, [f"input of {name} {test.data.hex()}"])
+            self.assertIn(told, compare.report(caught.exception).split("\n")[2])
 
 
 class CommandLine(unittest.TestCase):
@@ -123,12 +238,13 @@ class CommandLine(unittest.TestCase):
         with tempfile.TemporaryDirectory() as folder:
             grid = self.wrap(folder, "grid", "")
             replay = self.wrap(folder, "replay", "--fault 'answer plus one'")
-            status, text = self.run_main(grid, replay, "--seed", "5")
+            esri = self.wrap(folder, "esri", "")
+            status, text = self.run_main(grid, replay, esri, "--seed", "5")
         self.assertEqual(status, 1)
         self.assertIn("expected: ", text)
 
     def test_missing_program(self) -> None:
-        status, text = self.run_main("no-such-program", "no-such-program")
+        status, text = self.run_main(*["no-such-program"] * 3)
         self.assertEqual(status, 1)
         self.assertIn("No such file", text)
 
@@ -148,6 +264,15 @@ class Generator(unittest.TestCase):
         cls.journals = [test for test in tests if isinstance(test, Journal)]
         cls.inputs = [test.data for test in tests if isinstance(test, GridInput)]
 
+    def esri_texts(self) -> Iterator[tuple[exact_survey.Survey, protocol.Call, list[Expected]]]:
+        """The calls for a text in the lists made for them, with the survey and what may come."""
+        for journal in self.journals:
+            survey = exact_survey.Survey()
+            for call in journal.calls if journal.kind in ESRI_KINDS else []:
+                cases = permitted.expected(survey, call)
+                if call.letter == "p":
+                    yield survey, call, cases
+
     def test_a_seed_gives_the_same_tests(self) -> None:
         self.assertEqual(part_of_run(FAULTY_PART), part_of_run(FAULTY_PART))
 
@@ -155,7 +280,8 @@ class Generator(unittest.TestCase):
         met = Counter()
         for journal in self.journals:
             survey = exact_survey.Survey()
-            met.update(permitted.expected(survey, call).lines[0][0][0] for call in journal.calls)
+            cases = [permitted.expected(survey, call)[0] for call in journal.calls]
+            met.update(case.lines[0][0][0] for case in cases)
         for number in range(1, exact.LAST_REFUSAL + 1):
             self.assertGreater(met[f"refused {number}"], 1, number)
 
@@ -164,11 +290,57 @@ class Generator(unittest.TestCase):
         for number in (6, 7, *range(9, 16)):
             self.assertGreater(met[f"refused {number}\n".encode()], 0, number)
 
+    def test_every_refusal_of_the_esri_program_is_met(self) -> None:
+        met = Counter(map(stand_ins.esri, self.inputs))
+        for number in (6, 7, *range(9, 17)):
+            self.assertGreater(met[f"refused {number}\n".encode()], 0, number)
+
+    def test_margins_of_esri_texts(self) -> None:
+        """Lent a text's length, more or less; either of two texts, or a text or 8, may come."""
+        met = Counter()
+        for _, call, cases in self.esri_texts():
+            reply, outcome = permitted.permitted_text(cases[0].lines[0]), cases[0].outcome
+            met["text or 8"] += outcome is not None and cases[-1].outcome is None
+            met["two texts"] += len(cases) > 1 and cases[1].outcome is not None
+            met["none"] += reply == "refused 8" and call.lent == 0
+            met["too few"] += reply == "refused 8" and call.lent > 0
+            met["too few for the longest"] += reply == "refused 8" and call.lent == LONGEST_TEXT - 1
+            if outcome is not None:
+                met["most" if call.lent == BYTES.most else call.lent - outcome.numbers[0]] += 1
+                met["longest"] += outcome.numbers[0] == LONGEST_TEXT
+        for what in (0, 1, 9, "most", "text or 8", "two texts", "none", "too few", "longest"):
+            self.assertGreater(met[what], 3, what)
+        self.assertGreater(met["too few for the longest"], 0)
+
+    def test_cells_of_esri_texts(self) -> None:
+        """0, those about it, and every length; next to one another those of unlike lengths."""
+        met = Counter()
+        for data in self.inputs:
+            for row in stand_ins.esri(data).decode().split("\n")[6:-1]:
+                cells = row.split(" ")
+                met.update(cells)
+                met.update(cell.partition(".")[0] for cell in cells)
+                met.update(map(len, cells))
+                met["unlike lengths"] += len(set(map(len, cells))) > 1
+        about = ("0.00000000", "0.00390625", "-0.00390625", "-0", "0", "-1.00000000")
+        for what in (*about, 10, 11, 12, 13, "unlike lengths"):
+            self.assertGreater(met[what], 0, what)
+
+    def test_grids_of_esri_texts(self) -> None:
+        """One cell, one row and one column with two steps, of a survey and of no points."""
+        met = Counter()
+        for survey, call, cases in self.esri_texts():
+            if permitted.permitted_text(cases[0].lines[0]) == "refused 16":
+                met[call.numbers[4] == 1, call.numbers[5] == 1, bool(survey.values)] += 1
+        for shape in ((True, True), (True, False), (False, True), (False, False)):
+            for present in (True, False):
+                self.assertGreater(met[*shape, present], 0, (shape, present))
+
     def test_damaged_files_that_stay_valid(self) -> None:
         survey, valid = exact_survey.Survey(), 0
         for journal in self.journals:
             for call in journal.calls:
-                valid += call.damaged and permitted.expected(survey, call).outcome is not None
+                valid += call.damaged and permitted.expected(survey, call)[0].outcome is not None
         self.assertGreater(valid, 20)
 
     def test_counts_of_neighbours_and_kinds(self) -> None:
@@ -192,7 +364,7 @@ class Generator(unittest.TestCase):
             survey, before = exact_survey.Survey(), ""
             for call in journal.calls:
                 met[before] += call.letter == "e"
-                expected = permitted.expected(survey, call)
+                expected = permitted.expected(survey, call)[0]
                 before = call.operation.name
                 if expected.outcome is None:
                     before += " " + expected.lines[0][0][0]
@@ -206,7 +378,7 @@ class Generator(unittest.TestCase):
         for journal in self.journals:
             survey = exact_survey.Survey()
             for call in journal.calls if journal.kind == "ends" else []:
-                accepted = permitted.expected(survey, call).outcome is not None
+                accepted = permitted.expected(survey, call)[0].outcome is not None
                 asks = call.letter != "e" and not call.operation.alters
                 self.assertFalse(accepted and asks, protocol.describe(call))
 
@@ -217,7 +389,7 @@ class Generator(unittest.TestCase):
             survey = exact_survey.Survey()
             for call in journal.calls if journal.kind == "ends" else []:
                 before = survey.exact_ends()
-                accepted = permitted.expected(survey, call).outcome is not None
+                accepted = permitted.expected(survey, call)[0].outcome is not None
                 after, present = survey.exact_ends(), len(survey.values)
                 if accepted and call.letter == "d" and present:
                     x, y = call.numbers

@@ -7,20 +7,28 @@ import unittest
 from collections.abc import Callable, Iterable, Sequence
 from fractions import Fraction
 from random import Random
+from struct import pack
 from unittest import mock
 
+import damage
 import exact
+import exact_esri
 import exact_files
 import exact_survey
+import free_rounding
 import grid_inputs
+import grids
 import journals
 import metric
 import mixed_calls
+import outcomes
 import permitted
 import protocol
+import random_calls
 import stand_ins
 import surveys
 from exact import Lookup, Neighbour
+from exact_files import Grid
 from exact_survey import Survey
 from metric import Location, Offset
 
@@ -302,6 +310,134 @@ class Ends(RefusalCase):
                 self.assert_ends(survey, *again.read_ends().numbers)
                 compared += 1
         self.assertGreater(compared, 500)
+
+
+class EsriTexts(RefusalCase):
+    """Document 02's §2: the text, its length, and 16 after 7 and before 6."""
+
+    WHOLE_CASE = (
+        b"ncols 2\nnrows 1\nxllcenter 0\nyllcenter 0\ncellsize 1\nNODATA_value -9999\n"
+        b"-7.00000000 -7.00000000\n"
+    )
+
+    def text(self, survey: Survey, *numbers: int) -> bytes:
+        """The text of a grid of which no cell may be rounded either way."""
+        outcome = survey.esri_text(Grid(*numbers), 65_536)
+        self.assertTrue(outcome.measured)
+        self.assertEqual(len(outcomes.filled_units(outcome)), 1)
+        return b"".join(outcomes.preferred(each) for each in outcome.filled)
+
+    def rows(self, survey: Survey, *numbers: int) -> list[str]:
+        return self.text(survey, *numbers).decode().split("\n")[6:-1]
+
+    def test_whole_case(self) -> None:
+        self.assertEqual(self.text(survey_of([(3, 0, -7)]), 0, 0, 1, 1, 2, 1), self.WHOLE_CASE)
+        case = grid_inputs.whole_case(Random(0), 0)
+        self.assertEqual(stand_ins.esri(case), self.WHOLE_CASE)
+        pieces = permitted.text_pieces(exact_survey.esri_program(case))
+        self.assertEqual(permitted.permitted_text(pieces), self.WHOLE_CASE.decode())
+
+    def test_decimals(self) -> None:
+        for answer, decimals in (
+            (0, "0.00000000"),
+            (1, "0.00390625"),
+            (-1, "-0.00390625"),
+            (16, "0.06250000"),
+            (128, "0.50000000"),
+            (-128, "-0.50000000"),
+            (255, "0.99609375"),
+            (-255, "-0.99609375"),
+            (256, "1.00000000"),
+            (-256, "-1.00000000"),
+            (-320, "-1.25000000"),
+            (-1792, "-7.00000000"),
+            (5973, "23.33203125"),
+            (2559, "9.99609375"),
+            (2560, "10.00000000"),
+            (-25_600, "-100.00000000"),
+            (-32_768, "-128.00000000"),
+            (32_512, "127.00000000"),
+        ):
+            self.assertEqual(exact_esri.decimal(answer).decode(), decimals)
+
+    def test_every_answer_is_read_back(self) -> None:
+        for answer in range(-32_768, 32_513):
+            decimals = exact_esri.decimal(answer).decode()
+            self.assertRegex(decimals, r"\A-?(0|[1-9][0-9]{0,2})\.[0-9]{8}\Z")
+            self.assertEqual(Fraction(decimals), Fraction(answer, 256))
+            self.assertEqual(decimals.startswith("-"), answer < 0)
+
+    def test_highest_y_first(self) -> None:
+        points = [(10 + 3 * x, 20 + 3 * y, 10 * y + x) for x in range(3) for y in range(4)]
+        rows = self.rows(survey_of(points), 10, 20, 3, 3, 3, 4)
+        expected = [[10 * y + x for x in range(3)] for y in (3, 2, 1, 0)]
+        self.assertEqual(rows, [" ".join(f"{z}.00000000" for z in row) for row in expected])
+
+    def test_halves_and_256ths(self) -> None:
+        half = survey_of([(0, 0, 0), (10, 0, -1)])
+        self.assertEqual(self.rows(half, 0, 0, 5, 5, 3, 1), ["0.00000000 -0.50000000 -1.00000000"])
+        self.assertEqual(self.rows(half, 5, 0, 1, 1, 1, 2), ["-0.50000000"] * 2)
+        small = survey_of([(1, 0, 0), (16, 0, 1)])
+        self.assertEqual(self.rows(small, 0, 0, 1, 1, 2, 1), ["0.00390625 0.00000000"])
+        small.change(16, 0, -1)
+        self.assertEqual(self.rows(small, 0, 0, 1, 1, 2, 1), ["-0.00390625 0.00000000"])
+
+    def test_shortest_and_longest(self) -> None:
+        shortest = self.text(survey_of([(3, 0, 7)]), 0, 0, 1, 1, 1, 1)
+        self.assertEqual(len(shortest), random_calls.SHORTEST_TEXT)
+        widest = grids.widest_grid(Random(0))
+        longest = self.text(survey_of([(3, 0, -128)]), *widest)
+        self.assertEqual(len(longest), random_calls.LONGEST_TEXT)
+        self.assertEqual((longest.count(b"\n"), longest.count(b" ")), (70, 6 + 64 * 63))
+        single = self.text(survey_of([(3, 0, 7)]), 4095, 4094, 65_535, 65_535, 1, 1)
+        self.assertIn(b"\nxllcenter 4095\nyllcenter 4094\ncellsize 65535\n", single)
+
+    def test_order_of_refusals(self) -> None:
+        none, one = Survey(), survey_of([(3, 0, -7)])
+        proper, unlike = Grid(0, 0, 1, 1, 2, 1), Grid(0, 0, 1, 2, 1, 1)
+        for survey in (none, one):
+            self.assert_refused(7, survey.esri_text, Grid(0, 0, 0, 1, 1, 1), 0)
+            self.assert_refused(7, survey.esri_text, Grid(0, 0, 1, 2, 65, 1), 65_536)
+            self.assert_refused(16, survey.esri_text, unlike, 0)
+            self.assert_refused(16, survey.esri_text, unlike, 65_536)
+            self.assert_refused(16, survey.esri_text, Grid(0, 0, 2, 1, 1, 2), 65_536)
+        self.assert_refused(6, none.esri_text, proper, 0)
+        self.assert_refused(8, one.esri_text, proper, 0)
+        self.assert_refused(8, one.esri_text, proper, 93)
+        one.esri_text(proper, 94)
+
+    def test_order_of_refusals_of_the_program(self) -> None:
+        records = damage.records_of([(3, 0, -7)])
+        unlike = pack(">6H", 0, 0, 1, 2, 1, 1)
+        for number, data in (
+            (9, b""),
+            (10, unlike),
+            (13, damage.assemble(unlike, records, total=0)),
+            (15, damage.assemble(unlike, records + records)),
+            (7, damage.assemble(unlike[:11], records)),
+            (7, damage.assemble(pack(">6H", 0, 0, 1, 2, 0, 1), records)),
+            (16, damage.assemble(unlike, records)),
+            (16, damage.assemble(unlike, [])),
+            (6, damage.assemble(pack(">6H", 0, 0, 1, 1, 1, 1), [])),
+        ):
+            self.assert_refused(number, exact_survey.esri_program, data)
+            self.assertEqual(stand_ins.esri(data), f"refused {number}\n".encode())
+
+    def test_of_either_rounding(self) -> None:
+        """Between 0 and -1/256 at the midpoint; 8 is certain only below the shorter text."""
+        survey, grid = survey_of([(100, 0, 0), (2260, 0, -1)]), Grid(0, 0, 1, 1, 1, 1)
+        self.assertEqual(answers(survey.exact_lookup(0, 0)), [-1, 0])
+        outcome = survey.esri_text(grid, 81)
+        self.assertEqual(outcomes.filled_units(outcome), [81, 82])
+        self.assert_refused(8, survey.esri_text, grid, 80)
+
+    def test_made_to_be_rounded_either_way(self) -> None:
+        rng = Random(23)
+        for _ in range(100):
+            points, numbers = free_rounding.make(rng)
+            cells = survey_of(points).exact_cells(Grid(*numbers))
+            free = sum(len(answers(lookup)) == 2 for lookup in cells)
+            self.assertIn(free, (numbers[4], numbers[5]))
 
 
 class Files(RefusalCase):

@@ -4,6 +4,7 @@ from __future__ import annotations
 
 import unittest
 from collections import Counter
+from collections.abc import Callable
 from pathlib import Path
 
 import checks
@@ -13,6 +14,7 @@ import journals
 import permitted
 import stored_journal
 from operations import BY_LETTER
+from outcomes import Outcome
 from programs import Run
 
 CRATES = Path(__file__).parent.parent / "crates"
@@ -39,11 +41,17 @@ class StoredJournal(unittest.TestCase):
             self.assertIn(f"refused {number}", replies)
 
 
-class StoredGridInput(unittest.TestCase):
-    def test_output_is_permitted(self) -> None:
-        stored = CRATES / "shepard_grid"
-        pieces = permitted.file_pieces(exact_survey.grid_program((stored / "stdin").read_bytes()))
+class StoredInputs(unittest.TestCase):
+    def assert_permitted(self, name: str, program: Callable[[bytes], Outcome]) -> None:
+        stored = CRATES / name
+        pieces = permitted.file_pieces(program((stored / "stdin").read_bytes()))
         self.assertIsNone(permitted.mismatch(pieces, (stored / "stdout").read_bytes().hex()))
+
+    def test_grid_file_is_permitted(self) -> None:
+        self.assert_permitted("shepard_grid", exact_survey.grid_program)
+
+    def test_esri_text_is_permitted(self) -> None:
+        self.assert_permitted("shepard_esri", exact_survey.esri_program)
 
 
 if __name__ == "__main__":

@@ -18,9 +18,11 @@ from operations import BY_LETTER
 from programs import Run
 
 FAKES = str(Path(__file__).with_name("fakes.py"))
-FEWEST_ROWS = 516
+FEWEST_ROWS = 602
 TWO = "two points\nadd 3 0 0: ok\nadd 6 0 90: ok\n"
 LOOKUP = "lookup 0 0: found 4608 2 0\n"
+HEADER = "  ncols 1\n  nrows 1\n  xllcenter 3\n  yllcenter 0\n  cellsize 1\n  NODATA_value -9999\n"
+TEXT = f"esri text 3 0 1 1 1 1 into 83: length 81\n{HEADER}  0.00000000\n  left 2*a5\n"
 
 
 def by_stand_in(command: Sequence[str], data: bytes) -> Run:
@@ -79,6 +81,16 @@ class Rows(unittest.TestCase):
         right = row + "  neighbour 3 0 0: distance 0 kind 0\n"
         self.assert_wrong(right + "  neighbour 6 0 90: distance 768 kind 1\n", "came no line")
 
+    def test_texts(self) -> None:
+        self.assertEqual(vectors.differences(TWO + TEXT, []), [])
+        self.assert_wrong(TEXT.replace("length 81", "length 82"), "length 81")
+        self.assert_wrong(TEXT.replace("0.00000000", "-0.00000000"), "came   0.00000000")
+        self.assert_wrong(TEXT.replace("left 2*a5", "left 1*a5"), "came   left 2*a5")
+        self.assert_wrong(TEXT.replace("  left 2*a5\n", ""), "expected no line")
+        refused = "esri text 3 0 1 1 1 1 into 80: refused 8\n"
+        self.assert_wrong(refused, "came   left 80*a5")
+        self.assertEqual(vectors.differences(TWO + refused + "  left 80*a5\n", []), [])
+
     def test_another_survey(self) -> None:
         """A section without "then" starts from a fresh survey."""
         self.assert_wrong("\nanother\n" + LOOKUP, "came lookup 0 0: refused 6")
@@ -106,6 +118,10 @@ class Rows(unittest.TestCase):
             "write into",
             "lookup with neighbours 0 0 into 33",
             "grid 0 0 1 1 1 into 2",
+            "esri 0 0 1 1 1 1 into 2",
+            "esri text 0 0 1 1 1 into 2",
+            "esri text 0 0 1 1 1 1",
+            "esri text 0 0 1 1 1 1 into 65537",
         )
         for left in wrong:
             with self.subTest(left=left):
@@ -122,6 +138,23 @@ class Rows(unittest.TestCase):
             self.assertEqual(vectors.differences(TWO, []), ["after line 3: came 'ok\\n'"])
         with mock.patch.object(vectors, "run_program", lambda *_: Run(b"ok\nok\n", "; trouble")):
             self.assertEqual(vectors.differences(TWO, []), ["lines 2 to 3; trouble"])
+
+
+class Texts(unittest.TestCase):
+    def assert_shown(self, reply: str, lent: str, *below: str) -> None:
+        lines = vector_rows.shown("esri text 0 0 1 1 1 1 into 9", [reply, lent])
+        self.assertEqual(lines[1:], list(below))
+
+    def test_what_no_sound_program_writes(self) -> None:
+        self.assert_shown("wrote 3", "bytes 610a62", "  a", "  'b' without a line feed")
+        self.assert_shown("wrote 4", "bytes 6120090aa500", "  a \\t", "  left a500")
+        self.assert_shown("wrote 3", "bytes a50d0a", "  \\xa5\\r")
+        self.assert_shown("wrote 2", "bytes 0a0a", "  ", "  ")
+        self.assert_shown("wrote 9", "bytes 610a", "  a")
+        self.assert_shown("refused 8", "bytes 6ea5", "  left 6ea5")
+        self.assert_shown("refused 8", "bytes")
+        self.assert_shown("refused 8", "bytes 6g", "  bytes 6g")
+        self.assert_shown("nothing", "nothing", "  nothing")
 
 
 class Files(unittest.TestCase):

@@ -152,10 +152,33 @@ def lent_shown(lent: str) -> str:
     return in_words(lent)
 
 
+def left_shown(rest: bytes) -> list[str]:
+    """What is left of the lent bytes, where something is; if untouched, how much."""
+    untouched = rest.replace(b"\xa5", b"") == b""
+    return [f"  left {len(rest)}*a5" if untouched else f"  left {rest.hex()}"] if rest else []
+
+
+def text_shown(reply: str, lent: str) -> list[str]:
+    """The lines of a text, and what is left of the lent bytes; what is no ASCII is escaped."""
+    wrote = re.fullmatch(r"wrote ([0-9]+)", reply)
+    try:
+        data = bytes.fromhex(lent.removeprefix("bytes"))
+    except ValueError:
+        return [f"  {lent}"]
+    length = int(wrote.group(1)) if wrote else 0
+    *lines, unended = data[:length].decode("latin-1").split("\n")
+    below = ["  " + line.encode("unicode_escape").decode() for line in lines]
+    if unended:
+        below.append(f"  {unended!r} without a line feed")
+    return below + left_shown(data[length:])
+
+
 def shown(left: str, lines: Sequence[str]) -> list[str]:
     """The lines that a row has, from the lines that came for its call."""
     right, below = in_words(lines[0]), []
-    if len(lines) > 1 and lines[1].split()[:1] == [RECORDS.word]:
+    if len(lines) > 1 and operation_of(left).text:
+        below = text_shown(*lines)
+    elif len(lines) > 1 and lines[1].split()[:1] == [RECORDS.word]:
         below = list(map(neighbour_line, records_shown(left, lines[0], lines[1].split()[1:])))
     elif len(lines) > 1:
         right += ", " + lent_shown(lines[1])

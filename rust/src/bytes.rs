@@ -112,3 +112,25 @@ pub fn grid_file(file: &[u8], grid: &Grid, out: &mut [u8]) -> Result<usize, Refu
     })?;
     Ok(length)
 }
+
+/// The Esri ASCII grid to the front of `out`, and its length; none is longer than 57,434 bytes.
+pub fn esri(file: &[u8], grid: &Grid, out: &mut [u8]) -> Result<usize, Refusal> {
+    let mut length = 0;
+    // SAFETY: as in `rewrite`.
+    unless(unsafe {
+        sys::shepard_esri(
+            file.as_ptr(),
+            file.len(),
+            grid.x0,
+            grid.y0,
+            grid.step_x,
+            grid.step_y,
+            grid.columns,
+            grid.rows,
+            out.as_mut_ptr(),
+            out.len(),
+            &mut length,
+        )
+    })?;
+    Ok(length)
+}

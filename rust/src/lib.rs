@@ -11,7 +11,8 @@
 //! survey.add(6, 0, 90)?;
 //! assert_eq!(survey.lookup(0, 0)?.answer, 4608);
 //! let grid = Grid { x0: 0, y0: 0, step_x: 1, step_y: 1, columns: 2, rows: 1 };
-//! assert_eq!(survey.grid(&grid)?.len(), 2);
+//! assert_eq!(survey.grid(&grid)?, [4608, 3178]);
+//! assert!(survey.esri(&grid)?.ends_with("\n18.00000000 12.41406250\n"));
 //! # Ok::<(), shepard::Refusal>(())
 //! ```
 pub mod bytes;
@@ -20,7 +21,7 @@ mod sys;
 
 pub use survey::Survey;
 
-/// Why a call is refused, by document 01's number.
+/// Why a call is refused, by the method's number.
 #[derive(Clone, Copy, Debug, PartialEq, Eq)]
 pub struct Refusal(pub u8);
 
@@ -42,6 +43,7 @@ impl std::fmt::Display for Refusal {
             13 => "the sum of the file's record bytes differs",
             14 => "a record of the file is off the domain",
             15 => "a record of the file is not after the one before",
+            16 => "the two steps of an Esri ASCII grid differ",
             _ => "no such refusal",
         };
         write!(f, "refused {}: {why}", self.0)

@@ -4,14 +4,21 @@ use crate::{bytes, Found, Grid, Kind, Neighbour, Refusal};
 /// Bytes of the longest file that is written.
 const FILE_MOST: usize = 5 * 256 + 12;
 
+/// Bytes of the longest grid file.
+const GRID_FILE_MOST: usize = 2 * 64 * 64 + 20;
+
+/// Bytes enough for every Esri ASCII grid: 14 for a cell, 90 for the lines before.
+const ESRI_MOST: usize = 14 * 64 * 64 + 90;
+
 /// At most 256 points, as the bytes of their file, which has no preamble.
 #[derive(Clone, Debug, PartialEq, Eq)]
 pub struct Survey {
     file: Vec<u8>,
 }
 
-fn written(write: impl FnOnce(&mut [u8]) -> Result<usize, Refusal>) -> Result<Vec<u8>, Refusal> {
-    let mut out = vec![0; FILE_MOST];
+/// What a call that is lent `most` bytes writes to their front.
+fn written(most: usize, write: impl FnOnce(&mut [u8]) -> Result<usize, Refusal>) -> Result<Vec<u8>, Refusal> {
+    let mut out = vec![0; most];
     let length = write(&mut out)?;
     out.truncate(length);
     Ok(out)
@@ -28,12 +35,12 @@ fn long(b: &[u8]) -> u32 {
 impl Survey {
     /// A survey of no points.
     pub fn new() -> Survey {
-        Survey { file: written(bytes::fresh).expect("there is room for every file") }
+        Survey { file: written(FILE_MOST, bytes::fresh).expect("there is room for every file") }
     }
 
     /// The survey of a file.
     pub fn from_file(file: &[u8]) -> Result<Survey, Refusal> {
-        Ok(Survey { file: written(|out| bytes::rewrite(file, out))? })
+        Ok(Survey { file: written(FILE_MOST, |out| bytes::rewrite(file, out))? })
     }
 
     /// The survey file's bytes.
@@ -48,19 +55,19 @@ impl Survey {
 
     /// A new point.
     pub fn add(&mut self, x: u32, y: u32, z: i32) -> Result<(), Refusal> {
-        self.file = written(|out| bytes::add(&self.file, x, y, z, out))?;
+        self.file = written(FILE_MOST, |out| bytes::add(&self.file, x, y, z, out))?;
         Ok(())
     }
 
     /// Another value at a location.
     pub fn change(&mut self, x: u32, y: u32, z: i32) -> Result<(), Refusal> {
-        self.file = written(|out| bytes::change(&self.file, x, y, z, out))?;
+        self.file = written(FILE_MOST, |out| bytes::change(&self.file, x, y, z, out))?;
         Ok(())
     }
 
     /// A point taken out.
     pub fn drop_point(&mut self, x: u32, y: u32) -> Result<(), Refusal> {
-        self.file = written(|out| bytes::drop(&self.file, x, y, out))?;
+        self.file = written(FILE_MOST, |out| bytes::drop(&self.file, x, y, out))?;
         Ok(())
     }
 
@@ -92,16 +99,19 @@ impl Survey {
 
     /// The grid file.
     pub fn grid_file(&self, grid: &Grid) -> Result<Vec<u8>, Refusal> {
-        let mut out = vec![0; 2 * 64 * 64 + 20];
-        let length = bytes::grid_file(&self.file, grid, &mut out)?;
-        out.truncate(length);
-        Ok(out)
+        written(GRID_FILE_MOST, |out| bytes::grid_file(&self.file, grid, out))
     }
 
     /// The grid's cells, row by row, y ascending, x ascending within a row.
     pub fn grid(&self, grid: &Grid) -> Result<Vec<i16>, Refusal> {
         let file = self.grid_file(grid)?;
         Ok(file[..file.len() - 20].chunks_exact(2).map(|b| word(b) as i16).collect())
+    }
+
+    /// The Esri ASCII grid: six lines before the cells, then rows from the highest y down, each cell in register steps with eight decimals.
+    pub fn esri(&self, grid: &Grid) -> Result<String, Refusal> {
+        let text = written(ESRI_MOST, |out| bytes::esri(&self.file, grid, out))?;
+        Ok(String::from_utf8(text).expect("the text is ASCII"))
     }
 }
 

@@ -40,4 +40,17 @@ extern "C" {
         out_length: usize,
         length: *mut usize,
     ) -> u8;
+    pub fn shepard_esri(
+        file: *const u8,
+        file_length: usize,
+        x0: u16,
+        y0: u16,
+        step_x: u16,
+        step_y: u16,
+        columns: u16,
+        rows: u16,
+        out: *mut u8,
+        out_length: usize,
+        length: *mut usize,
+    ) -> u8;
 }

@@ -1,4 +1,6 @@
-//! The library held to an implementation of document 01 that was written apart, on random and damaged input.
+//! The library held to an implementation of documents 01 and 02 that was written apart, on random and damaged input.
+//! The tests of the Esri ASCII grid are in `esri`.
+mod esri;
 mod input;
 mod paper;
 
@@ -34,6 +36,17 @@ fn check_answer(want: &paper::Lookup, answer: i16) {
     assert!(off <= 129.0 + 1e-6, "{:?}: {answer} is {off} / 65536 from {}", want.neighbours, want.mean);
     let values = || want.neighbours.iter().map(|a| 256 * i16::from(a.z));
     assert!(values().min() <= Some(answer) && Some(answer) <= values().max(), "{:?}: {answer}", want.neighbours);
+}
+
+/// Every cell is the answer of the lookup at its location.
+fn check_cells(points: &[Point], g: &Grid, cells: &[i16]) {
+    let file = paper::write(points);
+    for (i, &cell) in cells.iter().enumerate() {
+        let (c, r) = (i as u32 % u32::from(g.columns), i as u32 / u32::from(g.columns));
+        let (x, y) = (u32::from(g.x0) + c * u32::from(g.step_x), u32::from(g.y0) + r * u32::from(g.step_y));
+        assert_eq!(cell, bytes::lookup(&file, x, y).unwrap().answer);
+        check_answer(&paper::lookup(points, x, y), cell);
+    }
 }
 
 fn check_lookups(points: &[Point], random: &mut Random) {
@@ -163,6 +176,7 @@ fn damaged_files() {
         let room = random.below(60) as usize;
         assert_eq!(lent(room, |out| bytes::rewrite(&file, out)), expected(room, want.clone().map(|p| paper::write(&p))));
         assert_eq!(lent(room, |out| bytes::add(&file, 9999, 0, 0, out)), expected(room, want.clone().and(Err(1))));
+        assert_eq!(lent(room, |out| bytes::esri(&file, &esri::UNLIKE_STEPS, out)), expected(room, want.clone().and(Err(16))));
         if let Err(no) = want {
             assert_eq!(bytes::lookup(&file, 9999, 0), Err(Refusal(no)));
             assert_eq!(bytes::lookup_many(&file, &[255; 4], &mut []), Err(Refusal(no)));
@@ -192,13 +206,7 @@ fn grids() {
         let six = [g.x0, g.y0, g.step_x, g.step_y, g.columns, g.rows].map(u16::to_be_bytes).concat();
         let trailer = [&six[..], &(length as u32 - 20).to_be_bytes()[..], b"RLG1"].concat();
         assert_eq!(out[length - 20..length], trailer);
-        let cells = Survey::from_file(&file).unwrap().grid(&g).unwrap();
-        for (i, &cell) in cells.iter().enumerate() {
-            let (c, r) = (i as u32 % u32::from(g.columns), i as u32 / u32::from(g.columns));
-            let (x, y) = (u32::from(g.x0) + c * u32::from(g.step_x), u32::from(g.y0) + r * u32::from(g.step_y));
-            assert_eq!(cell, bytes::lookup(&file, x, y).unwrap().answer);
-            check_answer(&paper::lookup(&points, x, y), cell);
-        }
+        check_cells(&points, &g, &Survey::from_file(&file).unwrap().grid(&g).unwrap());
     }
 }
 

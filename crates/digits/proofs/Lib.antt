@@ -1,3 +1,3 @@
--- Facts that the proofs of this crate share, and what the text of a number states.
-pub mod Widths
-pub mod Back
+-- Facts that the proofs of this crate share.
+pub mod Turns
+pub mod Lines

@@ -3,12 +3,14 @@ ghost use mathlib.Core.Path.{_≡_};
 ghost use Prim.Native.Nat.{_*_, _≤_, _<_};
 ghost use lib.ListN.{length};
 ghost use Rattle.model.specs.Lists.{laid};
-ghost use Rattle.digits.specs.Decimal.{digitsOf, placesIn, decimal as decimalOf, signedDecimal};
+ghost use Rattle.model.specs.Decimal.{digitsOf, places as placesOf, decimal as decimalOf, signedDecimal};
+ghost use Rattle.digits.specs.Line.{lineOf};
 ghost use Rattle.digits.specs.Hexadecimal.{hexDigit, hexPair, hexadecimal as hexadecimalOf};
 
 // How many decimal digits n has.
-fn places(n: u64) -> usize
-    ensures { λ r. ⌜ r ≡ placesIn 20 n ⌝ }
+pub fn places(n: u64) -> usize
+    ensures { λ r. ⌜ r ≡ placesOf n ⌝ }
+    ensures { λ r. ⌜ r ≤ 20 ⌝ }
 {
     let mut k = 1usize;
     let mut rest = n;
@@ -20,7 +22,7 @@ fn places(n: u64) -> usize
 }
 
 // Fills the lent bytes with the last decimal digits of n, and zeros before them.
-fn spell(n: u64, out: &mut [u8])
+pub fn spell(n: u64, out: &mut [u8])
     ensures { λ _. ⌜ now (out .exit) ≡ digitsOf (length (now (out .entry))) n ⌝ }
 {
     let mut i = out.len();
@@ -33,9 +35,9 @@ fn spell(n: u64, out: &mut [u8])
 }
 
 // Writes the digits of n, where as many bytes are lent, and answers how many they are.
-fn put(n: u64, out: &mut [u8]) -> usize
-    requires { ⌜ placesIn 20 n ≤ length (now out) ⌝ }
-    ensures { λ r. ⌜ r ≡ placesIn 20 n ⌝ }
+pub fn put(n: u64, out: &mut [u8]) -> usize
+    requires { ⌜ placesOf n ≤ length (now out) ⌝ }
+    ensures { λ r. ⌜ r ≡ placesOf n ⌝ }
     ensures { λ _. ⌜ now (out .exit) ≡ laid (decimalOf n) (now (out .entry)) ⌝ }
 {
     let k = places(n);
@@ -67,6 +69,18 @@ pub fn signed(a: i64, out: &mut [u8]) -> usize
         return k + 1;
     }
     put(n, out)
+}
+
+// Writes a label, a number and a line feed, where as many bytes are lent, and answers how many they are.
+pub fn line(label: &[u8], n: u64, out: &mut [u8]) -> usize
+    requires { ⌜ length (lineOf (now label) n) ≤ length (now out) ⌝ }
+    ensures { λ r. ⌜ r ≡ length (lineOf (now (label .entry)) n) ⌝ }
+    ensures { λ _. ⌜ now (out .exit) ≡ laid (lineOf (now (label .entry)) n) (now (out .entry)) ⌝ }
+{
+    let at = bytes::copy(label, out);
+    let end = at + put(n, &mut out[at..]);
+    out[end] = b'\n';
+    end + 1
 }
 
 // A hexadecimal digit in lower case.

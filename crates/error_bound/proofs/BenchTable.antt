@@ -9,7 +9,8 @@ use Rattle.model.specs.Point.{Location, State, point, inDomain, inRange}
 use Rattle.model.specs.Extent.{surveyOf}
 use Rattle.model.specs.Mean.{mean}
 use Rattle.model.specs.Answer.{answer}
-use Rattle.model.specs.Examples.{StarredRows, closed-rows, Is}
+use Rattle.model.specs.Fraction.{Is}
+use Rattle.model.specs.Examples.{StarredRows, closed-rows}
 use Rattle.laws.proofs.RecordLaws.{domain-bounds}
 use Rattle.laws.proofs.ChosenLaws.{chosen-all}
 use Rattle.laws.proofs.ExtentLaws.{kept-most}

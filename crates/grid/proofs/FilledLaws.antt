@@ -11,7 +11,8 @@ use Rattle.model.specs.GridFile.{gridFile, gridFileLength, gridFileRefusal, gri
 use Rattle.laws.proofs.GridLaws.{length-cells, length-grid-file}
 use Rattle.survey_file.specs.declared.Written.the-variants.{Length, Refused as Written·Refused}
 use Rattle.grid.specs.declared.Filled.the-variants.{Cells, Refused}
-use Rattle.grid.specs.FilledAs.{CellsRight, filledAs, FilledRight, gridWrittenAs, WrittenRight}
+use Rattle.grid_cells.specs.CellsRight.{CellsRight, WrittenRight}
+use Rattle.grid.specs.FilledAs.{filledAs, FilledRight, gridWrittenAs}
 
 module _ (s : State) (g : Grid) where
   module _ (d : List ℤ) where

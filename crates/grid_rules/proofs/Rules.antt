@@ -1,4 +1,4 @@
--- The first rule of an axis that is broken, and the last one, which decides where the others hold; and 7, 6 and 8 in their order.
+-- The first rule of an axis that is broken, and the last one, which decides where the others hold; 7, 6 and 8 in their order, and 7, 16 and 6.
 use mathlib.Core.Path.{_≡_, refl}
 use Prim.Native.Nat.{ℕ, _+_, _-_, _*_, _≤_, _<_}
 use mathlib.Core.Bool.{Bool, true, false, cond}
@@ -7,6 +7,7 @@ use lib.ListN.{length}
 use borrow.Author.Tests.{le-leb, lt-leb}
 use Rattle.model.specs.Point.{State}
 use Rattle.model.specs.Grid.{Grid, axis, proper, gridCheck}
+use Rattle.model.specs.Esri.{esriCheck}
 
 -- the first of three numbers that is not 0
 abbrev pub firstOf : ℕ → ℕ → ℕ → ℕ
@@ -34,3 +35,12 @@ in-order g s n = by-rules (proper g) (eqb (length (s .contents .points)) 0)
     by-rules true true = refl
     by-rules true false = refl
     by-rules false u = refl
+
+pub in-esri-order : (g : Grid) (s : State)
+    → firstOf (cond (proper g) 0 7) (cond (eqb (g .stepX) (g .stepY)) 0 16) (cond (eqb (length (s .contents .points)) 0) 6 0) ≡ esriCheck g s 0
+in-esri-order g s = by-rules (proper g) (eqb (g .stepX) (g .stepY)) (cond (eqb (length (s .contents .points)) 0) 6 0)
+  where
+    by-rules : (t u : Bool) (n : ℕ) → firstOf (cond t 0 7) (cond u 0 16) n ≡ cond t (cond u n 16) 7
+    by-rules true true n = refl
+    by-rules true false n = refl
+    by-rules false u n = refl

@@ -1,4 +1,4 @@
-// A grid's six numbers, their rules, and why a grid is refused: document 01, "Grid and grid file".
+// A grid's six numbers, their rules, and why a grid is refused: document 01, "Grid and grid file", and document 02, §2.
 ghost use mathlib.Core.Path.{_≡_};
 ghost use mathlib.Core.Bool.{cond};
 ghost use Prim.Native.Nat.{_+_, _*_, _^_, _<_};
@@ -7,6 +7,7 @@ ghost use lib.ListN.{length};
 ghost use Rattle.model.specs.Point.{State};
 ghost use Rattle.model.specs.Refusals.{enough};
 ghost use Rattle.model.specs.Grid.{axis, proper, cellCount, gridCheck};
+ghost use Rattle.model.specs.Esri.{esriCheck};
 ghost use Rattle.grid_rules.specs.GridOf.{gridOf};
 
 // The first column and row stand at (x0, y0), the others a step apart.
@@ -68,6 +69,15 @@ fn rules_refusal(g: Grid) -> u8
     7
 }
 
+fn steps_refusal(g: Grid) -> u8
+    ensures { λ r. ⌜ r ≡ cond (eqb (g .«step_x») (g .«step_y»)) 0 16 ⌝ }
+{
+    if g.step_x == g.step_y {
+        return 0;
+    }
+    16
+}
+
 fn empty_refusal(present: usize) -> u8
     ensures { λ r. ⌜ r ≡ cond (eqb present 0) 6 0 ⌝ }
 {
@@ -107,4 +117,14 @@ pub fn refusal(g: Grid, present: usize, lent: usize, needed: usize) -> u8
     let points = empty_refusal(present);
     let room = room_refusal(lent, needed);
     first(rules, points, room)
+}
+
+// Refusals 7, 16, 6, or 0: of an Esri ASCII grid over `present` points, before it is known how long its text is.
+pub fn esri_refusal(g: Grid, present: usize) -> u8
+    ensures { λ r. ⌜ ((s : State) → length (s .contents .points) ≡ present → r ≡ esriCheck (gridOf g) s 0) ⌝ }
+{
+    let rules = rules_refusal(g);
+    let steps = steps_refusal(g);
+    let points = empty_refusal(present);
+    first(rules, steps, points)
 }

@@ -19,6 +19,7 @@ use Rattle.laws.proofs.Tests.{cond-zero, cond-sound}
 
 -- what a grid keeps to along an axis that keeps the rules
 pub record Axis (start step count : ℕ) : Type 0 where
+  pub some : 1 ≤ count
   pub few : count ≤ 64
   pub last : start + (count - 1) * step ≤ 4095
 
@@ -26,7 +27,8 @@ axis-keeps : (start step count : ℕ) → axis start step count ≡ true → Axi
 axis-keeps start step count h =
     let a = and-eq-true-iff (leb 1 step && leb 1 count && leb count 64) (leb (start + (count - 1) * step) 4095) .0 h in
     let b = and-eq-true-iff (leb 1 step && leb 1 count) (leb count 64) .0 (a .0) in
-    record { few = leb-true count 64 (b .1); last = leb-true (start + (count - 1) * step) 4095 (a .1) }
+    let c = and-eq-true-iff (leb 1 step) (leb 1 count) .0 (b .0) in
+    record { some = leb-true 1 count (c .1); few = leb-true count 64 (b .1); last = leb-true (start + (count - 1) * step) 4095 (a .1) }
 
 axis-inside : (start step count i : ℕ) → Axis start step count → i < count → start + i * step < 4096
 axis-inside start step count i a h =

@@ -4,6 +4,7 @@ pub mod ListLaws
 pub mod MapLaws
 pub mod ThroughLaws
 pub mod Stores
+pub mod Writing
 pub mod Insertions
 pub mod IntLaws
 pub mod DiffLaws
@@ -28,4 +29,7 @@ pub mod HistoryInvariant
 pub mod DropLaws
 pub mod ExtentLaws
 pub mod GridLaws
+pub mod DecimalLaws
+pub mod EsriLaws
+pub mod EsriChecks
 pub mod ProgramLaws

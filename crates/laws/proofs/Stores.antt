@@ -30,6 +30,10 @@ laid-after a k p r d e h =
     let t : length (p ++ r) ≡ a + length r = omega (arith, length-append p r) in
     rw (take-at p (drop a d) a e, drop-at p (drop a d) a e, take-all k (drop a d) g, drop-of-length-le (drop a d) g, drop-drop, append-nil, t, append-assoc p r (drop (a + length r) d))
 
+-- a list keeps its length
+pub length-laid : {A : Type 0} (b d : List A) → length b ≤ length d → length (laid b d) ≡ length d
+length-laid b d h = omega (arith, length-append b (drop (length b) d), length-drop (length b) d)
+
 -- what was written over a whole list is all that it holds
 pub laid-whole : {A : Type 0} (b d : List A) → length d ≤ length b → laid b d ≡ b
 laid-whole b d h = rw (drop-of-length-le d h, append-nil)

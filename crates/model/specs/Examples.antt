@@ -1,19 +1,20 @@
--- Closed cases that hold the definitions to document 01: the starred rows of its bench table, `closed-rows`; rows of our own that these cannot replace,
--- `further`, `calls`, `kept`, `lent`, `files`, `refusals` and `grids`; and the whole case of the grid program.
-use Prim.Native.Nat.{ℕ, _+_, _<_}
+-- Closed cases that hold the definitions to documents 01 and 02: the starred rows of the bench table, `closed-rows`; rows of our own that these cannot replace,
+-- `further`, `calls`, `kept`, `lent`, `files`, `refusals`, `grids`, `decimals`, `decimals-read`, `cell-texts` and `texts`; and the whole case, as a grid file and as an Esri ASCII grid.
+use Prim.Native.Nat.{ℕ, _+_}
 use mathlib.Core.Path.{_≡_, refl}
 use mathlib.Core.Bool.{true, false}
+use mathlib.Core.Option.{Option, none, some}
 use mathlib.Core.List.{List, [], _∷_, _++_, map, reverse}
 use lib.Dec.{lit<}
-use lib.IntN.{ℤ, pos, negsuc, _*ℤ_}
-use lib.ListN.{replicate}
+use lib.IntN.{ℤ, pos, negsuc}
+use lib.ListN.{replicate, set}
 use Rattle.model.specs.Lists.{tabulate}
 use Rattle.model.specs.Point.{Location, Point, Contents, State, point, location, contentsOf}
 use Rattle.model.specs.Distance.{distance}
 use Rattle.model.specs.Extent.{extentOf, settled, surveyOf}
 use Rattle.model.specs.Choice.{choice}
 use Rattle.model.specs.Influence.{influenceAt, kind}
-use Rattle.model.specs.Fraction.{Signed}
+use Rattle.model.specs.Fraction.{Signed, Is}
 use Rattle.model.specs.Weight.{Neighbourhood, neighbourhood}
 use Rattle.model.specs.Mean.{weightedMean, mean}
 use Rattle.model.specs.Answer.{Neighbour, answer, chosenCount, neighbours}
@@ -22,7 +23,9 @@ use Rattle.model.specs.Lent.{neighboursInto}
 use Rattle.model.specs.SurveyFile.{fault, wrongSize, fileRefusal, fileOf}
 use Rattle.model.specs.Calls.{Call, Add, Change, Drop, Clear, Load, Ask, refusal, fresh, present, edited}
 use Rattle.model.specs.Grid.{Grid, gridRefusal, cells}
-use Rattle.model.specs.Program.{program}
+use Rattle.model.specs.Decimal.{digitsOf, places, decimal, signedDecimal, decimalRead}
+use Rattle.model.specs.Esri.{cellText, esriText, esriRefusal, esriInto, cellsRead}
+use Rattle.model.specs.Program.{gridProgram, esriProgram}
 
 abbrev two : ℕ → ℕ → ℤ → ℕ → ℕ → ℤ → State
 two x y z u v w = surveyOf (point x y z ∷ point u v w ∷ [])
@@ -60,10 +63,6 @@ crowd n = surveyOf (point 0 0 (pos 0) ∷ tabulate (λ i. point (2001 + i) 2000 
 
 abbrev crowded : Location
 crowded = location 2000 2000
-
--- the mean is a / b
-abbrev pub Is : Signed → ℤ → ℕ → Type 0
-Is m a b = (m .top *ℤ pos b ≡ a *ℤ pos (m .bot)) × (0 < m .bot)
 
 -- the starred rows but the first, which is a law over every location
 abbrev pub StarredRows : Type 0
@@ -196,27 +195,104 @@ unfolding fileRefusal fileOf fault tabulate
 files = (refl, refl, refl, refl, refl, refl, refl)
 
 -- the program on no bytes, on twelve that are no file, and on an empty file with nothing before it: `refused 9`, `refused 10`, `refused 7`
-pub refusals : (program [] ≡ 114 ∷ 101 ∷ 102 ∷ 117 ∷ 115 ∷ 101 ∷ 100 ∷ 32 ∷ 57 ∷ 10 ∷ [])
-    × (program (replicate 12 0) ≡ 114 ∷ 101 ∷ 102 ∷ 117 ∷ 115 ∷ 101 ∷ 100 ∷ 32 ∷ 49 ∷ 48 ∷ 10 ∷ [])
-    × (program (trailerOf 0 0 0) ≡ 114 ∷ 101 ∷ 102 ∷ 117 ∷ 115 ∷ 101 ∷ 100 ∷ 32 ∷ 55 ∷ 10 ∷ [])
-unfolding program
+pub refusals : (gridProgram [] ≡ 114 ∷ 101 ∷ 102 ∷ 117 ∷ 115 ∷ 101 ∷ 100 ∷ 32 ∷ 57 ∷ 10 ∷ [])
+    × (gridProgram (replicate 12 0) ≡ 114 ∷ 101 ∷ 102 ∷ 117 ∷ 115 ∷ 101 ∷ 100 ∷ 32 ∷ 49 ∷ 48 ∷ 10 ∷ [])
+    × (gridProgram (trailerOf 0 0 0) ≡ 114 ∷ 101 ∷ 102 ∷ 117 ∷ 115 ∷ 101 ∷ 100 ∷ 32 ∷ 55 ∷ 10 ∷ [])
+unfolding gridProgram
 refusals = (refl, refl, refl)
 
 -- a grid at (x, y) with a step and a count for both axes
 abbrev square : ℕ → ℕ → ℕ → ℕ → Grid
 square x y step n = record { x0 = x; y0 = y; stepX = step; stepY = step; columns = n; rows = n }
 
+abbrev corners : State
+corners = surveyOf (point 5 5 (pos 1) ∷ point 5 7 (pos 3) ∷ point 7 5 (pos 2) ∷ point 7 7 (pos 4) ∷ [])
+
 -- 7 before 6 before 8; cells row by row, x ascending within a row
 pub grids : (map (λ g. gridRefusal g (settled fresh) 0) (square 0 0 0 1 ∷ square 0 0 1 65 ∷ square 0 0 1 0 ∷ square 4096 0 1 1 ∷ square 1 0 65 64 ∷ square 2 0 65535 2 ∷ []) ≡ 7 ∷ 7 ∷ 7 ∷ 7 ∷ 7 ∷ 7 ∷ [])
     × (gridRefusal (square 0 0 65 64) (settled fresh) 0 ≡ 6)
     × (gridRefusal (square 0 0 65 64) five 4095 ≡ 8)
     × (gridRefusal (square 0 0 65 64) five 4096 ≡ 0)
-    × (cells (surveyOf (point 5 5 (pos 1) ∷ point 5 7 (pos 3) ∷ point 7 5 (pos 2) ∷ point 7 7 (pos 4) ∷ [])) (square 5 5 2 2) ≡ pos 256 ∷ pos 512 ∷ pos 768 ∷ pos 1024 ∷ [])
+    × (cells corners (square 5 5 2 2) ≡ pos 256 ∷ pos 512 ∷ pos 768 ∷ pos 1024 ∷ [])
 unfolding gridRefusal cells extentOf
 grids = (refl, refl, refl, refl, refl)
 
 -- document 01's whole case of the grid program
-pub whole-case : program (0 ∷ 0 ∷ 0 ∷ 0 ∷ 0 ∷ 1 ∷ 0 ∷ 1 ∷ 0 ∷ 2 ∷ 0 ∷ 1 ∷ 0 ∷ 3 ∷ 0 ∷ 0 ∷ 0xF9 ∷ 0 ∷ 1 ∷ 0 ∷ 0 ∷ 0 ∷ 5 ∷ 0 ∷ 0xFC ∷ 0x52 ∷ 0x4C ∷ 0x53 ∷ 0x31 ∷ [])
+abbrev wholeInput : List ℕ
+wholeInput = 0 ∷ 0 ∷ 0 ∷ 0 ∷ 0 ∷ 1 ∷ 0 ∷ 1 ∷ 0 ∷ 2 ∷ 0 ∷ 1 ∷ 0 ∷ 3 ∷ 0 ∷ 0 ∷ 0xF9 ∷ 0 ∷ 1 ∷ 0 ∷ 0 ∷ 0 ∷ 5 ∷ 0 ∷ 0xFC ∷ 0x52 ∷ 0x4C ∷ 0x53 ∷ 0x31 ∷ []
+
+pub whole-case : gridProgram wholeInput
     ≡ 0xF9 ∷ 0 ∷ 0xF9 ∷ 0 ∷ 0 ∷ 0 ∷ 0 ∷ 0 ∷ 0 ∷ 1 ∷ 0 ∷ 1 ∷ 0 ∷ 2 ∷ 0 ∷ 1 ∷ 0 ∷ 0 ∷ 0 ∷ 4 ∷ 0x52 ∷ 0x4C ∷ 0x47 ∷ 0x31 ∷ []
-unfolding program
+unfolding gridProgram
 whole-case = refl
+
+-- numbers in decimal: one digit, the seam at ten, 64 bits, a sign, leading zeros up to a width
+pub decimals : (decimal 0 ≡ 48 ∷ [])
+    × (decimal 9 ≡ 57 ∷ [])
+    × (decimal 10 ≡ 49 ∷ 48 ∷ [])
+    × (decimal 18446744073709551615 ≡ 49 ∷ 56 ∷ 52 ∷ 52 ∷ 54 ∷ 55 ∷ 52 ∷ 52 ∷ 48 ∷ 55 ∷ 51 ∷ 55 ∷ 48 ∷ 57 ∷ 53 ∷ 53 ∷ 49 ∷ 54 ∷ 49 ∷ 53 ∷ [])
+    × (signedDecimal (pos 127) ≡ 49 ∷ 50 ∷ 55 ∷ [])
+    × (signedDecimal (negsuc 0) ≡ 45 ∷ 49 ∷ [])
+    × (digitsOf 4 7 ≡ 48 ∷ 48 ∷ 48 ∷ 55 ∷ [])
+unfolding digitsOf places
+decimals = (refl, refl, refl, refl, refl, refl, refl)
+
+abbrev fraction : ℤ → ℕ → Option Signed
+fraction a b = some (record { top = a; bot = b })
+
+-- decimals read: `12`, `-0.50`, `007.5`; and `-`, `.5`, `5.`, `1.2.3`, `+1`, `1 2` and no code at all, which are none
+pub decimals-read : (decimalRead (49 ∷ 50 ∷ []) ≡ fraction (pos 12) 1)
+    × (decimalRead (45 ∷ 48 ∷ 46 ∷ 53 ∷ 48 ∷ []) ≡ fraction (negsuc 49) 100)
+    × (decimalRead (48 ∷ 48 ∷ 55 ∷ 46 ∷ 53 ∷ []) ≡ fraction (pos 75) 10)
+    × (map decimalRead ((45 ∷ []) ∷ (46 ∷ 53 ∷ []) ∷ (53 ∷ 46 ∷ []) ∷ (49 ∷ 46 ∷ 50 ∷ 46 ∷ 51 ∷ []) ∷ (43 ∷ 49 ∷ []) ∷ (49 ∷ 32 ∷ 50 ∷ []) ∷ [] ∷ []) ≡ replicate 7 none)
+unfolding decimalRead
+decimals-read = (refl, refl, refl, refl)
+
+-- cells: 0 has no sign, 1/256, -1/2, -7, and the longest, -128; which is below 0 keeps its sign before a whole part of 0
+pub cell-texts : (cellText (pos 0) ≡ 48 ∷ 46 ∷ 48 ∷ 48 ∷ 48 ∷ 48 ∷ 48 ∷ 48 ∷ 48 ∷ 48 ∷ [])
+    × (cellText (pos 1) ≡ 48 ∷ 46 ∷ 48 ∷ 48 ∷ 51 ∷ 57 ∷ 48 ∷ 54 ∷ 50 ∷ 53 ∷ [])
+    × (cellText (pos 32511) ≡ 49 ∷ 50 ∷ 54 ∷ 46 ∷ 57 ∷ 57 ∷ 54 ∷ 48 ∷ 57 ∷ 51 ∷ 55 ∷ 53 ∷ [])
+    × (cellText (negsuc 0) ≡ 45 ∷ 48 ∷ 46 ∷ 48 ∷ 48 ∷ 51 ∷ 57 ∷ 48 ∷ 54 ∷ 50 ∷ 53 ∷ [])
+    × (cellText (negsuc 127) ≡ 45 ∷ 48 ∷ 46 ∷ 53 ∷ 48 ∷ 48 ∷ 48 ∷ 48 ∷ 48 ∷ 48 ∷ 48 ∷ [])
+    × (cellText (negsuc 32767) ≡ 45 ∷ 49 ∷ 50 ∷ 56 ∷ 46 ∷ 48 ∷ 48 ∷ 48 ∷ 48 ∷ 48 ∷ 48 ∷ 48 ∷ 48 ∷ [])
+unfolding digitsOf places
+cell-texts = (refl, refl, refl, refl, refl, refl)
+
+-- the grid of two by two with unlike steps
+abbrev oblong : ℕ → Grid
+oblong n = record { x0 = 5; y0 = 5; stepX = 2; stepY = 3; columns = n; rows = n }
+
+-- 7 before 16 before 6 before 8, 16 of one cell too; rows from the highest y down; one byte short nothing is written, and what is lent beyond the text stays
+pub texts : (map (λ g. esriRefusal g (settled fresh) 0) (oblong 0 ∷ oblong 2 ∷ oblong 1 ∷ square 5 5 2 2 ∷ []) ≡ 7 ∷ 16 ∷ 16 ∷ 6 ∷ [])
+    × (map (esriRefusal (square 5 5 2 2) corners) (0 ∷ 113 ∷ 114 ∷ 115 ∷ []) ≡ 8 ∷ 8 ∷ 0 ∷ 0 ∷ [])
+    × (esriText corners (square 5 5 2 2) ≡
+    110 ∷ 99 ∷ 111 ∷ 108 ∷ 115 ∷ 32 ∷ 50 ∷ 10
+    ∷ 110 ∷ 114 ∷ 111 ∷ 119 ∷ 115 ∷ 32 ∷ 50 ∷ 10
+    ∷ 120 ∷ 108 ∷ 108 ∷ 99 ∷ 101 ∷ 110 ∷ 116 ∷ 101 ∷ 114 ∷ 32 ∷ 53 ∷ 10
+    ∷ 121 ∷ 108 ∷ 108 ∷ 99 ∷ 101 ∷ 110 ∷ 116 ∷ 101 ∷ 114 ∷ 32 ∷ 53 ∷ 10
+    ∷ 99 ∷ 101 ∷ 108 ∷ 108 ∷ 115 ∷ 105 ∷ 122 ∷ 101 ∷ 32 ∷ 50 ∷ 10
+    ∷ 78 ∷ 79 ∷ 68 ∷ 65 ∷ 84 ∷ 65 ∷ 95 ∷ 118 ∷ 97 ∷ 108 ∷ 117 ∷ 101 ∷ 32 ∷ 45 ∷ 57 ∷ 57 ∷ 57 ∷ 57 ∷ 10
+    ∷ 51 ∷ 46 ∷ 48 ∷ 48 ∷ 48 ∷ 48 ∷ 48 ∷ 48 ∷ 48 ∷ 48 ∷ 32 ∷ 52 ∷ 46 ∷ 48 ∷ 48 ∷ 48 ∷ 48 ∷ 48 ∷ 48 ∷ 48 ∷ 48 ∷ 10
+    ∷ 49 ∷ 46 ∷ 48 ∷ 48 ∷ 48 ∷ 48 ∷ 48 ∷ 48 ∷ 48 ∷ 48 ∷ 32 ∷ 50 ∷ 46 ∷ 48 ∷ 48 ∷ 48 ∷ 48 ∷ 48 ∷ 48 ∷ 48 ∷ 48 ∷ 10
+    ∷ [])
+    × (esriInto corners (square 5 5 2 2) (replicate 113 9) ≡ replicate 113 9)
+    × (esriInto corners (square 5 5 2 2) (replicate 116 9) ≡ esriText corners (square 5 5 2 2) ++ 9 ∷ 9 ∷ [])
+    × (esriInto corners (oblong 2) (replicate 116 9) ≡ replicate 116 9)
+    × (cellsRead (esriText corners (square 5 5 2 2)) ≡ (fraction (pos 300000000) 100000000 ∷ fraction (pos 400000000) 100000000 ∷ []) ∷ (fraction (pos 100000000) 100000000 ∷ fraction (pos 200000000) 100000000 ∷ []) ∷ [])
+unfolding esriRefusal esriText esriInto cellsRead extentOf
+texts = (refl, refl, refl, refl, refl, refl, refl)
+
+-- document 01's whole case as an Esri ASCII grid; and the refusals of its program: `refused 9`, and `refused 16` of the case with unlike steps
+pub whole-case-text : (esriProgram wholeInput ≡
+    110 ∷ 99 ∷ 111 ∷ 108 ∷ 115 ∷ 32 ∷ 50 ∷ 10
+    ∷ 110 ∷ 114 ∷ 111 ∷ 119 ∷ 115 ∷ 32 ∷ 49 ∷ 10
+    ∷ 120 ∷ 108 ∷ 108 ∷ 99 ∷ 101 ∷ 110 ∷ 116 ∷ 101 ∷ 114 ∷ 32 ∷ 48 ∷ 10
+    ∷ 121 ∷ 108 ∷ 108 ∷ 99 ∷ 101 ∷ 110 ∷ 116 ∷ 101 ∷ 114 ∷ 32 ∷ 48 ∷ 10
+    ∷ 99 ∷ 101 ∷ 108 ∷ 108 ∷ 115 ∷ 105 ∷ 122 ∷ 101 ∷ 32 ∷ 49 ∷ 10
+    ∷ 78 ∷ 79 ∷ 68 ∷ 65 ∷ 84 ∷ 65 ∷ 95 ∷ 118 ∷ 97 ∷ 108 ∷ 117 ∷ 101 ∷ 32 ∷ 45 ∷ 57 ∷ 57 ∷ 57 ∷ 57 ∷ 10
+    ∷ 45 ∷ 55 ∷ 46 ∷ 48 ∷ 48 ∷ 48 ∷ 48 ∷ 48 ∷ 48 ∷ 48 ∷ 48 ∷ 32 ∷ 45 ∷ 55 ∷ 46 ∷ 48 ∷ 48 ∷ 48 ∷ 48 ∷ 48 ∷ 48 ∷ 48 ∷ 48 ∷ 10
+    ∷ [])
+    × (esriProgram [] ≡ 114 ∷ 101 ∷ 102 ∷ 117 ∷ 115 ∷ 101 ∷ 100 ∷ 32 ∷ 57 ∷ 10 ∷ [])
+    × (esriProgram (set wholeInput 7 2) ≡ 114 ∷ 101 ∷ 102 ∷ 117 ∷ 115 ∷ 101 ∷ 100 ∷ 32 ∷ 49 ∷ 54 ∷ 10 ∷ [])
+unfolding esriProgram
+whole-case-text = (refl, refl, refl)

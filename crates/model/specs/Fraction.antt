@@ -1,6 +1,7 @@
 -- Fractions of whole numbers, a numerator over a denominator, never reduced: the exact values of document 01.
 -- In order: fractions that are not negative, their operations and sums; fractions with a sign.
-use Prim.Native.Nat.{ℕ, zero, suc, _+_, _*_}
+use mathlib.Core.Path.{_≡_}
+use Prim.Native.Nat.{ℕ, zero, suc, _+_, _*_, _<_}
 use lib.IntN.{ℤ, pos, _+ℤ_, _*ℤ_}
 
 pub record Fraction : Type 0 where
@@ -46,3 +47,7 @@ sumZ f (suc n) = plusZ (sumZ f n) (f n)
 -- f / g, for a g above 0
 unfoldable pub overZ : Signed → Fraction → Signed
 overZ f g = record { top = f .top *ℤ pos (g .bot); bot = f .bot * g .top }
+
+-- f is a / b
+abbrev pub Is : Signed → ℤ → ℕ → Type 0
+Is f a b = (f .top *ℤ pos b ≡ a *ℤ pos (f .bot)) × (0 < f .bot)

@@ -1,4 +1,4 @@
--- Document 01 as definitions, in the order in which they can be read.
+-- Documents 01 and 02 as definitions, in the order in which they can be read.
 pub mod Lists
 pub mod Point
 pub mod Distance
@@ -20,5 +20,7 @@ pub mod Calls
 pub mod Invariant
 pub mod Grid
 pub mod GridFile
+pub mod Decimal
+pub mod Esri
 pub mod Program
 pub mod Examples

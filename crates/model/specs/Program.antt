@@ -1,14 +1,17 @@
--- The grid program, from the bytes of its input to the bytes of its output: document 01, "Grid and grid file".
-use Prim.Native.Nat.{ℕ, _+_, _/_, _%_}
+-- The two grid programs, from the bytes of their input to the bytes of their output: document 01, "Grid and grid file", and document 02, §2.
+use Prim.Native.Nat.{ℕ}
 use mathlib.Core.Bool.{cond}
 use mathlib.Core.List.{List, [], _∷_, _++_}
 use lib.Dec.{ltb, eqb}
 use Rattle.model.specs.Point.{State}
 use Rattle.model.specs.Extent.{extentOf, surveyOf}
+use Rattle.model.specs.Refusals.{orElse}
 use Rattle.model.specs.Bytes.{wordAt}
 use Rattle.model.specs.SurveyFile.{fileRefusal, filePoints, recordStart}
 use Rattle.model.specs.Grid.{Grid, gridCheck}
 use Rattle.model.specs.GridFile.{gridFile}
+use Rattle.model.specs.Decimal.{digitsOf, places, decimal}
+use Rattle.model.specs.Esri.{esriText, esriCheck}
 
 -- the six numbers, the first 12 bytes of the input
 abbrev pub gridIn : List ℕ → Grid
@@ -17,20 +20,34 @@ gridIn f = record { x0 = wordAt f 0; y0 = wordAt f 2; stepX = wordAt f 4; stepY 
 abbrev pub stateIn : List ℕ → State
 stateIn f = surveyOf (filePoints f)
 
--- 9 to 15; then 7, of fewer than 12 bytes before the first record or of the grid; then 6
-unfoldable pub programRefusal : List ℕ → ℕ
-unfolding fileRefusal filePoints extentOf
-programRefusal f =
-    cond (eqb (fileRefusal f) 0) (cond (ltb (recordStart f) 12) 7 (gridCheck (gridIn f) (stateIn f) 0)) (fileRefusal f)
+-- of both: 9 to 15; then 7, of fewer than 12 bytes before the first record
+unfoldable pub inputRefusal : List ℕ → ℕ
+unfolding fileRefusal
+inputRefusal f = orElse (fileRefusal f) (cond (ltb (recordStart f) 12) 7 0)
 
--- a number below 100 in decimal digits
-abbrev pub decimal : ℕ → List ℕ
-decimal n = cond (ltb n 10) ((48 + n) ∷ []) ((48 + n / 10) ∷ (48 + n % 10) ∷ [])
+-- then 7 of the grid, and 6
+unfoldable pub gridProgramRefusal : List ℕ → ℕ
+unfolding inputRefusal filePoints extentOf
+gridProgramRefusal f = orElse (inputRefusal f) (gridCheck (gridIn f) (stateIn f) 0)
+
+-- then 7 of the grid, 16 and 6
+unfoldable pub esriProgramRefusal : List ℕ → ℕ
+unfolding inputRefusal filePoints extentOf
+esriProgramRefusal f = orElse (inputRefusal f) (esriCheck (gridIn f) (stateIn f) 0)
 
 -- the text `refused N` and a line feed
-abbrev pub refusedText : ℕ → List ℕ
+unfoldable pub refusedText : ℕ → List ℕ
+unfolding digitsOf places
 refusedText n = (114 ∷ 101 ∷ 102 ∷ 117 ∷ 115 ∷ 101 ∷ 100 ∷ 32 ∷ []) ++ decimal n ++ (10 ∷ [])
 
-unfoldable pub program : List ℕ → List ℕ
-unfolding programRefusal filePoints extentOf gridFile
-program f = cond (eqb (programRefusal f) 0) (gridFile (stateIn f) (gridIn f)) (refusedText (programRefusal f))
+-- what a program puts out that the number n refuses, and otherwise
+abbrev pub putOut : ℕ → List ℕ → List ℕ
+putOut n l = cond (eqb n 0) l (refusedText n)
+
+unfoldable pub gridProgram : List ℕ → List ℕ
+unfolding gridProgramRefusal filePoints extentOf gridFile refusedText
+gridProgram f = putOut (gridProgramRefusal f) (gridFile (stateIn f) (gridIn f))
+
+unfoldable pub esriProgram : List ℕ → List ℕ
+unfolding esriProgramRefusal filePoints extentOf esriText refusedText
+esriProgram f = putOut (esriProgramRefusal f) (esriText (stateIn f) (gridIn f))

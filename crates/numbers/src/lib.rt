@@ -107,6 +107,20 @@ pub fn absolute(v: i64) -> u64
     if v < 0 { (-1 - v) as u64 + 1 } else { v as u64 }
 }
 
+// A number of 16 bits as one of 64.
+pub fn widened(a: i16) -> i64
+    ensures { λ r. ⌜ r ≡ a ⌝ }
+{
+    a as i64
+}
+
+// The size of a number of 16 bits.
+pub fn size(a: i16) -> u64
+    ensures { λ r. ⌜ (r ≡ natAbs a) × (r ≤ 32768) ⌝ }
+{
+    absolute(widened(a))
+}
+
 pub fn lesser(a: i8, b: i8) -> i8
     ensures { λ r. ⌜ r ≡ lesserOf a b ⌝ }
 {

@@ -25,15 +25,10 @@ pub fn number(n: u64) {
     word(&text[0..k]);
 }
 
-// A value as a wider number.
-fn wide(a: i16) -> i64 {
-    a as i64
-}
-
 // Writes a value in decimal, with its minus sign.
 pub fn signed(a: i16) {
     let mut text = [0u8; 20];
-    let k = digits::signed(wide(a), &mut text);
+    let k = digits::signed(numbers::widened(a), &mut text);
     word(&text[0..k]);
 }
 

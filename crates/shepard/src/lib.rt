@@ -14,7 +14,7 @@ ghost use Rattle.whole_files.specs.Counts.{Counts};
 ghost use Rattle.file_edits.specs.Edits.{Edits};
 ghost use Rattle.file_lookups.specs.FileLookups.{Finds, ManyFound};
 ghost use Rattle.file_neighbours.specs.NeighbourBytes.{neighbourBytes};
-ghost use Rattle.file_grids.specs.WritesGrid.{gridFrom, WritesGrid};
+ghost use Rattle.file_grids.specs.WritesGrid.{gridFrom, WritesGrid, WritesEsri};
 
 // The file of a survey of no points: refusal 8.
 #[no_mangle]
@@ -149,4 +149,23 @@ pub extern "C" fn shepard_grid_file(
         (now (out .entry)) (now (length .entry)) r (now (out .exit)) (now (length .exit)) ⌝ }
 {
     file_grids::grid_file(file, x0, y0, step_x, step_y, columns, rows, out, length)
+}
+
+// The Esri ASCII grid to the front of the lent bytes, and its length: refusals 9 to 15, then 7, 16, 6, 8.
+#[no_mangle]
+pub extern "C" fn shepard_esri(
+    file: &[u8],
+    x0: u16,
+    y0: u16,
+    step_x: u16,
+    step_y: u16,
+    columns: u16,
+    rows: u16,
+    out: &mut [u8],
+    length: &mut usize,
+) -> u8
+    ensures { λ r. ⌜ WritesEsri (now (file .entry)) (gridFrom x0 y0 «step_x» «step_y» columns rows)
+        (now (out .entry)) (now (length .entry)) r (now (out .exit)) (now (length .exit)) ⌝ }
+{
+    file_grids::esri(file, x0, y0, step_x, step_y, columns, rows, out, length)
 }

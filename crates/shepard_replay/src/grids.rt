@@ -1,4 +1,4 @@
-// A grid's cells, and the grid file.
+// A grid's cells, the grid file, and the Esri ASCII grid.
 ghost use Prim.Native.Nat.{_≤_};
 ghost use lib.ListN.{length};
 use crate::journal;
@@ -51,8 +51,16 @@ fn file_into(s: Survey, g: Grid, lent: &mut [u8])
     show::bytes(lent);
 }
 
-// The six numbers, and in four bytes m, how many bytes are lent.
-pub fn write(s: Survey) -> Step {
+fn esri_into(s: Survey, g: Grid, lent: &mut [u8])
+    requires { ⌜ length (now lent) ≤ 65536 ⌝ }
+{
+    let w = esri::write(s, g, lent);
+    replies::written(w);
+    show::bytes(lent);
+}
+
+// The six numbers, and in four bytes m, how many bytes are lent: for the Esri ASCII grid or for the grid file.
+pub fn write(s: Survey, as_esri: bool) -> Step {
     let a = journal::read(16);
     if !a.whole {
         return step::bad_journal(s);
@@ -62,6 +70,10 @@ pub fn write(s: Survey) -> Step {
         return step::bad_journal(s);
     }
     let mut lent = [0xA5u8; 65536];
-    file_into(s, grid_of(a), &mut lent[0..m]);
+    if as_esri {
+        esri_into(s, grid_of(a), &mut lent[0..m]);
+    } else {
+        file_into(s, grid_of(a), &mut lent[0..m]);
+    }
     step::next(s)
 }

@@ -29,7 +29,8 @@ fn run_call(s: Survey) -> Step {
         b'n' => lookups::lookup_neighbours(s),
         b'e' => lookups::ends(s),
         b'g' => grids::cells(s),
-        b'f' => grids::write(s),
+        b'f' => grids::write(s, false),
+        b'p' => grids::write(s, true),
         _ => step::bad_journal(s),
     }
 }

@@ -1,4 +1,7 @@
 //! Document 01 in Rust, written from the paper alone, to hold the library to: points in a vector, the mean in f64.
+//! `esri` has document 02's text of a grid.
+pub mod esri;
+
 use shepard::{Grid, Kind, Neighbour};
 
 pub type Point = (u16, u16, i8);

@@ -2,8 +2,9 @@
 use mathlib.Core.Path.{_≡_}
 use Prim.Native.Nat.{suc, _+_, _-_, _≤_, _<_, _^_}
 use native.Mathlib.Omega.{arith}
-use Rattle.digits.specs.Decimal.{placesIn}
-use Rattle.digits.proofs.Widths.{places-one, turn}
+use Rattle.model.specs.Decimal.{placesIn}
+use Rattle.laws.proofs.DecimalLaws.{places-one, places-in}
+use Rattle.digits.proofs.Turns.{turn}
 use Rattle.digits.proofs.places.Statement.{statement}
 use Rattle.digits.proofs.places.Tie as tie
 
@@ -31,7 +32,9 @@ loop-again c =
 returns : tie.Need-returns Inv-loop μ-loop
 returns c =
     let l = c .before .loop in
-    omega (arith, places-one (20 - l .k) (l .rest) (omega arith))
+    let n = c .before .before .args .n in
+    let one = places-one (20 - l .k) (l .rest) (omega arith) in
+    (omega (arith, one, places-in 19 n (omega arith)), omega arith)
 
 pub places-spec : {M : Type 1} → statement M
 places-spec = tie.close (tie.spec Inv-loop μ-loop loop-holds add-k loop-less loop-again returns)

@@ -7,12 +7,12 @@ use lib.ListN.{length, take, drop}
 use lib.Seq.{length-take-le}
 use borrow.Author.Needs.{needs}
 use Rattle.model.specs.Lists.{laid}
-use Rattle.digits.specs.Decimal.{digitsOf, placesIn, decimal}
-use Rattle.digits.proofs.Widths.{length-digits}
+use Rattle.model.specs.Decimal.{digitsOf, places, decimal}
+use Rattle.laws.proofs.DecimalLaws.{length-digits}
 use Rattle.digits.proofs.put.Statement.{statement}
 use Rattle.digits.proofs.put.Tie as tie
 
-spelled : (k n : ℕ) (d t : List ℕ) → k ≡ placesIn 20 n → k ≤ length d → t ≡ digitsOf (length (take k d)) n → t ++ drop k d ≡ laid (decimal n) d
+spelled : (k n : ℕ) (d t : List ℕ) → k ≡ places n → k ≤ length d → t ≡ digitsOf (length (take k d)) n → t ++ drop k d ≡ laid (decimal n) d
 spelled k n d t e h q = rw (q, length-take-le k d h, length-digits, e)
 
 places-requires : tie.Need-places-requires
@@ -35,7 +35,7 @@ returns c =
     let k = c .before .before .before .before in
     let a = k .before .before .args in
     let s = c .before .before .spell in
-    (k .places .ensures, spelled (k .places .result) (a .n) (a .out .now) (s .last .1 .0) (k .places .ensures) (omega arith) (s .ensures))
+    (k .places .ensures .0, spelled (k .places .result) (a .n) (a .out .now) (s .last .1 .0) (k .places .ensures .0) (omega arith) (s .ensures))
 
 pub put-spec : {M : Type 1} → statement M
 put-spec =

@@ -15,8 +15,8 @@ use borrow.Rule.Slice.PartMut.{midOf, putMid}
 use Rattle.model.specs.Lists.{laid}
 use Rattle.laws.proofs.Stores.{laid-after}
 use Rattle.numbers.proofs.Signs.{below-zero, from-zero}
-use Rattle.digits.specs.Decimal.{placesIn, decimal, signedDecimal}
-use Rattle.digits.proofs.Widths.{places-most, length-digits}
+use Rattle.model.specs.Decimal.{places, decimal, signedDecimal}
+use Rattle.laws.proofs.DecimalLaws.{places-most, length-digits}
 use Rattle.digits.proofs.signed.Statement.{statement}
 use Rattle.digits.proofs.signed.Tie as tie
 
@@ -27,10 +27,10 @@ module _ {z : ℤ} (f : SFits w64 z) (n : ℕ) (e : n ≡ natAbs (toZ w64 (ofZ w
   above : ltZ (toZ w64 (ofZ w64 z)) (pos 0) ≡ false → signedDecimal z ≡ decimal n
   above t = rw (e, toZ-ofZ f, from-zero f t)
 
-  few : placesIn 20 n ≤ 19
-  few = let h : n ≤ 2 ^ 63 = rw (e, toZ-ofZ f) (natAbs-le z (f .sfits)) in places-most 20 18 n (omega arith)
+  few : places n ≤ 19
+  few = let h : n ≤ 2 ^ 63 = rw (e, toZ-ofZ f) (natAbs-le z (f .sfits)) in places-most 18 n (omega arith)
 
-at-most : (c : tie.After-absolute) → placesIn 20 (c .absolute .result) ≤ 19
+at-most : (c : tie.After-absolute) → places (c .absolute .result) ≤ 19
 at-most c = few (c .before .before .fits .a) (c .absolute .result) (c .absolute .ensures)
 
 -- a sign before the digits that were written from the second byte on

@@ -6,7 +6,7 @@ use native.Mathlib.Numerals.{sub-one}
 use native.Mathlib.Omega.{arith}
 use lib.ListN.{length, drop, set, length-set}
 use lib.Seq.{drop-cons, drop-set-lt, getD-set-same, drop-length, append-snoc}
-use Rattle.digits.specs.Decimal.{digitsOf}
+use Rattle.model.specs.Decimal.{digitsOf}
 use Rattle.digits.proofs.spell.Statement.{statement}
 use Rattle.digits.proofs.spell.Tie as tie
 

@@ -1,7 +1,11 @@
 -- `grid_file` meets its contract: a refused file decides, then the grid.
+use lib.ListN.{length}
 use borrow.Author.Needs.{needs}
+use Rattle.model.specs.GridFile.{gridFile, gridFileRefusal, gridFileInto}
+use Rattle.grid_rules.specs.GridOf.{gridOf}
+use Rattle.grid.specs.FilledAs.{gridWrittenAs}
 use Rattle.file_grids.specs.WritesGrid.{gridFrom}
-use Rattle.file_grids.proofs.Gridding.{grid-none, grid-file}
+use Rattle.file_grids.proofs.Gridding.{none-written, cells-written}
 use Rattle.file_grids.proofs.grid_file.Statement.{statement}
 use Rattle.file_grids.proofs.grid_file.Tie as tie
 
@@ -12,7 +16,10 @@ returns : tie.Need-returns
 returns c =
     let r = c .before .before in
     let a = r .before .before .before .args in
-    grid-none (a .file .now) (r .read .result) (r .read .ensures) (gridFrom (a .x0) (a .y0) (a .step-x) (a .step-y) (a .columns) (a .rows)) (a .out .now) (a .length .now) (c .if1 .taken)
+    none-written (a .file .now) (r .read .result) (r .read .ensures) (gridFrom (a .x0) (a .y0) (a .step-x) (a .step-y) (a .columns) (a .rows)) (a .out .now) (a .length .now) _ _ (c .if1 .taken)
+
+grid-from-requires : tie.Need-grid-from-requires
+grid-from-requires c κs = search needs
 
 write-requires : tie.Need-write-requires
 write-requires c κs = search needs
@@ -24,14 +31,19 @@ same-length : tie.Need-same-length
 same-length c = search needs
 
 returns-2 : tie.Need-returns-2
+unfolding gridWrittenAs gridFileInto
 returns-2 c =
     let w = c .before .before .before .before in
-    let h = w .before .before .before in
+    let g = w .before .before in
+    let h = g .before .before in
     let r = h .before .before in
     let a = r .before .before .before .args in
-    grid-file (a .file .now) (r .read .result) (r .read .ensures) (gridFrom (a .x0) (a .y0) (a .step-x) (a .step-y) (a .columns) (a .rows)) (a .out .now) (a .length .now) (h .if1 .left)
-    (w .write .result) _ _ _ (w .write .ensures .0) (w .write .ensures .1 .0) (w .write .ensures .1 .1) (c .tell-length .ensures)
+    let e = w .write .ensures in
+    cells-written (a .file .now) (r .read .result) (r .read .ensures) (gridFrom (a .x0) (a .y0) (a .step-x) (a .step-y) (a .columns) (a .rows)) (a .out .now) (a .length .now)
+    (λ s m. gridFileRefusal m s (length (a .out .now))) gridFile (h .if1 .left) (gridOf (g .grid-from .result)) (g .grid-from .ensures)
+    (w .write .result) _ _ _ (e .0) (e .1 .0) (e .1 .1) (c .tell-length .ensures)
 
 pub grid-file-spec : {M : Type 1} → statement M
 grid-file-spec =
-    tie.close (tie.spec read-requires returns write-requires tell-length-requires same-length returns-2)
+    tie.close
+    (tie.spec read-requires returns grid-from-requires write-requires tell-length-requires same-length returns-2)

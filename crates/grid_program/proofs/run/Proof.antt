@@ -1,73 +1,37 @@
--- `run` meets its contract: a file that is read gives the preamble's length by its count, and the grid's refusal is then the program's.
-use mathlib.Core.Path.{refl, sym, _∙_}
+-- `run` meets its contract: an input that is refused decides, and then the call that writes, which has room enough.
+use mathlib.Core.Path.{_≡_, sym, _∙_}
 use native.Mathlib.Omega.{arith}
-use lib.ListN.{length-take, length-drop}
+use lib.ListN.{length}
 use borrow.Author.Needs.{needs}
-use Rattle.laws.proofs.ProgramLaws.{file-decides, preamble-decides}
+use Rattle.model.specs.Grid.{gridCheck}
+use Rattle.model.specs.GridFile.{gridFile, gridFileRefusal, gridFileInto}
+use Rattle.model.specs.Program.{gridProgram, gridProgramRefusal}
+use Rattle.laws.proofs.GridLaws.{room-enough}
 use Rattle.survey.specs.StateOf.{stateOf}
 use Rattle.grid_rules.specs.GridOf.{gridOf}
-use Rattle.survey.proofs.Replying.{load-number, load-state}
-use Rattle.grid_program.proofs.Running.{ends-refused, preamble-short, preamble-long, six-first, grid-refused, grid-written}
+use Rattle.grid.specs.FilledAs.{gridWrittenAs}
+use Rattle.grid_io.proofs.Running.{input-refused, input-accepted}
 use Rattle.grid_program.proofs.run.Statement.{statement}
 use Rattle.grid_program.proofs.run.Tie as tie
 
-fresh-requires : tie.Need-fresh-requires
-fresh-requires c κs = search needs
+read-requires : tie.Need-read-requires
+read-requires c κs = search needs
 
-load-requires : tie.Need-load-requires
-load-requires c κs = search needs
-
-refused-requires : tie.Need-refused-requires
-refused-requires c κs = search needs
+refusal-requires : tie.Need-refusal-requires
+refusal-requires c κs = search needs
 
 returns : tie.Need-returns
+unfolding gridProgram gridProgramRefusal
 returns c =
-    let l = c .before .before .before in
-    let f = l .before .before .before .args .input .now in
-    let no = load-number f (l .before .fresh .result) (l .load .result) (l .load .ensures) in
-    let e = file-decides f (λ k. c .before .if1 .taken (no ∙ k)) in
-    ends-refused f _ _ (c .refused .ensures) (e ∙ sym no) (c .before .if1 .taken)
-
-count-requires : tie.Need-count-requires
-count-requires c κs = search needs
-
-mul-if2 : tie.Need-mul-if2
-mul-if2 c = omega arith
-
-add-if2 : tie.Need-add-if2
-add-if2 c = omega arith
-
-add-if2-2 : tie.Need-add-if2-2
-add-if2-2 c = omega arith
-
-refused-requires-2 : tie.Need-refused-requires-2
-refused-requires-2 c κs = search needs
-
-returns-2 : tie.Need-returns-2
-returns-2 c =
-    let n = c .before .before in
-    let l = n .before .before .before .before in
-    let f = l .before .before .before .args .input .now in
-    let no = load-number f (l .before .fresh .result) (l .load .result) (l .load .ensures) in
-    let e = sym no ∙ n .before .before .if1 .left in
-    let state = load-state f (l .before .fresh .result) (l .load .result) (l .load .ensures) (n .before .before .if1 .left) in
-    let short = preamble-short f e (stateOf (l .load .result .survey)) state (n .count .result) (n .count .ensures .0) (omega arith) in
-    ends-refused f _ 7 (c .refused2 .ensures) (preamble-decides f e short) (omega arith)
-
-sub-grid-of : tie.Need-sub-grid-of
-sub-grid-of c = search needs
-
-part-grid-of-start : tie.Need-part-grid-of-start
-part-grid-of-start c = search needs
-
-part-grid-of-end : tie.Need-part-grid-of-end
-part-grid-of-end c = omega arith
+    let r = c .before .before .before in
+    let f = r .before .before .args .input .now in
+    input-refused f (λ s g. gridCheck g s 0) gridFile (c .refusal .result) (r .read .result .refusal) (r .read .ensures .number) (c .before .if1 .taken) (c .refusal .ensures)
 
 grid-of-requires : tie.Need-grid-of-requires
-grid-of-requires c κs = simp (length-take, length-drop) (omega arith)
+grid-of-requires c κs = c .before .before .before .read .ensures .six (c .before .if1 .left)
 
 blank-requires : tie.Need-blank-requires
-blank-requires c κs = tt
+blank-requires c κs = search needs
 
 slice-aggregate-write : tie.Need-slice-aggregate-write
 slice-aggregate-write c = search needs
@@ -75,69 +39,36 @@ slice-aggregate-write c = search needs
 write-requires : tie.Need-write-requires
 write-requires c κs = search needs
 
-enum-known-written : tie.Need-enum-known-written
-enum-known-written c = search needs
+put-out-requires : tie.Need-put-out-requires
+put-out-requires c κs = search needs
 
-enum-known-written-2 : tie.Need-enum-known-written-2
-enum-known-written-2 c = search needs
-
-refused-requires-3 : tie.Need-refused-requires-3
-refused-requires-3 c κs = search needs
-
-returns-3 : tie.Need-returns-3
-returns-3 c =
-    let w = c .before .before .before .before in
-    let n = w .before .before .before .before .before .before in
-    let l = n .before .before .before .before in
-    let f = l .before .before .before .args .input .now in
-    let no = load-number f (l .before .fresh .result) (l .load .result) (l .load .ensures) in
-    let e = sym no ∙ n .before .before .if1 .left in
-    let s = stateOf (l .load .result .survey) in
-    let state = load-state f (l .before .fresh .result) (l .load .result) (l .load .ensures) (n .before .before .if1 .left) in
-    let long = preamble-long f e s state (n .count .result) (n .count .ensures .0) (omega arith) in
+returns-2 : tie.Need-returns-2
+unfolding gridProgram gridProgramRefusal gridWrittenAs gridFileInto
+returns-2 c =
+    let w = c .before .before in
     let d = w .before .before .blank in
     let g = w .before .before .before .grid-of in
-    grid-written f e s state long (gridOf (g .result)) (g .ensures ∙ six-first f) (d .result) (omega arith) (w .write .result) (w .write .ensures .0) _ _ (c .before .written .given .1) (w .write .ensures .1 .1)
-    (w .write .ensures .1 .0) refl
-
-returns-4 : tie.Need-returns-4
-returns-4 c =
-    let w = c .before .before .before .before .before in
-    let n = w .before .before .before .before .before .before in
-    let l = n .before .before .before .before in
-    let f = l .before .before .before .args .input .now in
-    let no = load-number f (l .before .fresh .result) (l .load .result) (l .load .ensures) in
-    let e = sym no ∙ n .before .before .if1 .left in
-    let s = stateOf (l .load .result .survey) in
-    let state = load-state f (l .before .fresh .result) (l .load .result) (l .load .ensures) (n .before .before .if1 .left) in
-    let long = preamble-long f e s state (n .count .result) (n .count .ensures .0) (omega arith) in
-    let d = w .before .before .blank in
-    let g = w .before .before .before .grid-of in
-    grid-refused f e s state long (gridOf (g .result)) (g .ensures ∙ six-first f) (d .result) (omega arith) (w .write .result) (w .write .ensures .0) _ _ (c .before .before .written2 .given .1) (c .refused3 .ensures)
+    let s = w .before .before .before .before in
+    let r = s .before .before .before in
+    let f = r .before .before .args .input .now in
+    let none = s .before .if1 .left in
+    let state = stateOf (r .read .result .survey) in
+    let grid = gridOf (g .result) in
+    let wrote = w .write .ensures in
+    let room = room-enough grid state (length (d .result)) (omega (arith, d .ensures)) in
+    input-accepted f (λ s g. gridCheck g s 0) gridFile (c .put-out .result) (sym (r .read .ensures .number) ∙ none) state (r .read .ensures .state none) grid (g .ensures)
+    (rw room at (c .put-out .ensures (gridFileRefusal grid state (length (d .result))) (gridFile state grid) (d .result) (wrote .0) (wrote .1 .0))) (w .write .result) (rw room at (wrote .0)) (wrote .1 .1)
 
 pub run-spec : {M : Type 1} → statement M
 run-spec =
     tie.close
     (tie.spec
-    fresh-requires
-    load-requires
-    refused-requires
+    read-requires
+    refusal-requires
     returns
-    count-requires
-    mul-if2
-    add-if2
-    add-if2-2
-    refused-requires-2
-    returns-2
-    sub-grid-of
-    part-grid-of-start
-    part-grid-of-end
     grid-of-requires
     blank-requires
     slice-aggregate-write
     write-requires
-    enum-known-written
-    enum-known-written-2
-    refused-requires-3
-    returns-3
-    returns-4)
+    put-out-requires
+    returns-2)

@@ -1,0 +1,2 @@
+-- The theorems of this crate.
+pub mod Texts

@@ -1,0 +1,2 @@
+-- The claim that the theorems of this crate show.
+pub mod ClaimText

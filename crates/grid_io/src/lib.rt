@@ -1,0 +1,86 @@
+// What the grid programs share: how their input is read, and what they put out: document 01, "Grid and grid file", and document 02, §2.
+ghost use mathlib.Core.Path.{_≡_};
+ghost use mathlib.Core.List.{List};
+ghost use Prim.Native.Nat.{ℕ, _+_, _≤_, _<_};
+ghost use lib.ListN.{length};
+ghost use Rattle.model.specs.Lists.{laid};
+ghost use Rattle.model.specs.Bytes.{wordAt};
+ghost use Rattle.model.specs.Refusals.{afterwards};
+ghost use Rattle.model.specs.Program.{gridIn, refusedText, putOut};
+ghost use Rattle.survey_file.specs.Written.{told};
+ghost use Rattle.grid_rules.specs.GridOf.{gridOf};
+ghost use Rattle.grid_io.specs.Input.{Asks};
+ghost use Rattle.grid_io.specs.Output.{Puts};
+use grid_rules::Grid;
+use survey::Reply;
+use survey_file::Written;
+
+// The first `length` of the bytes are meant: room for every grid file and for every Esri ASCII grid.
+pub struct Output {
+    pub bytes: [u8; 57434],
+    pub length: usize,
+}
+
+// No bytes yet.
+pub fn blank() -> [u8; 57434]
+    ensures { λ r. ⌜ 57434 ≡ length r ⌝ }
+{
+    [0; 57434]
+}
+
+// The number in the two bytes at i.
+fn word(input: &[u8], i: usize) -> u16
+    requires { ⌜ i + 1 < length (now input) ⌝ }
+    ensures { λ r. ⌜ r ≡ wordAt (now (input .entry)) i ⌝ }
+{
+    numbers::word_at(input, i) as u16
+}
+
+// The grid that an input begins with: six numbers, two bytes each.
+pub fn grid_of(input: &[u8]) -> Grid
+    requires { ⌜ 12 ≤ length (now input) ⌝ }
+    ensures { λ r. ⌜ gridOf r ≡ gridIn (now (input .entry)) ⌝ }
+{
+    Grid {
+        x0: word(input, 0),
+        y0: word(input, 2),
+        step_x: word(input, 4),
+        step_y: word(input, 6),
+        columns: word(input, 8),
+        rows: word(input, 10),
+    }
+}
+
+// The survey of an input: refusals 9 to 15, then 7 of fewer than 12 bytes before the first record.
+pub fn read(input: &[u8]) -> Reply
+    ensures { λ r. ⌜ Asks (now (input .entry)) r ⌝ }
+{
+    let mut loaded = survey::load(survey::fresh(), input);
+    if loaded.refusal != 0 {
+        return loaded;
+    }
+    let s = loaded.survey;
+    if input.len() < 12 + 5 * survey::count(s) + 12 {
+        loaded.refusal = 7;
+    }
+    loaded
+}
+
+// `refused `, the number and a line feed.
+pub fn refusal(no: u8) -> Output
+    ensures { λ r. ⌜ Puts (refusedText no) r ⌝ }
+{
+    let mut bytes = blank();
+    let length = digits::line(b"refused ", no as u64, &mut bytes);
+    Output { bytes, length }
+}
+
+// What is put out of bytes that a text was written to, or was refused to be.
+pub fn put_out(written: Written, bytes: [u8; 57434]) -> Output
+    ensures { λ r. ⌜ ((no : ℕ) (text was : List ℕ) → written ≡ told no (length text) → bytes ≡ afterwards no (laid text was) was → Puts (putOut no text) r) ⌝ }
+{
+    match written {
+        Written::Length(length) => Output { bytes, length },
+        Written::Refused(no) => refusal(no),
+    }
+}
