@@ -7,6 +7,7 @@ import unittest
 from fractions import Fraction
 from math import isqrt
 from pathlib import Path
+from struct import pack
 
 import exact
 import exact_files
@@ -343,6 +344,27 @@ class Bytes(unittest.TestCase):
         self.assertIn(f"value -7 is: {first}.", text)
         self.assertIn(f"= {second}.", text)
         self.assertIn("is {} and {}.".format(*rest), text)
+
+    def test_esri_text(self) -> None:
+        (file,) = hexadecimal("The survey file")
+        title = "The Esri ASCII grid"
+        text = "".join(line[4:] + "\n" for line in section(title) if line.startswith("    "))
+        filled = exact_survey.esri_program(pack(">6H", 98, 50, 2, 2, 2, 1) + file).filled
+        self.assertEqual({len(options(each)) for each in filled}, {1})
+        self.assertEqual(text.encode(), b"".join(preferred(each) for each in filled))
+        self.assertIn(f"The text, {len(text)} bytes:", prose(title))
+        first, second = (int(256 * Fraction(cell)) for cell in text.split("\n")[-2].split())
+        self.assertIn(f"Its cells are {first:,} and {second:,},", prose(title))
+        whole, part = divmod(-second, 256)
+        worked = f"{-second:,} is {whole} × 256 + {part}, with {part} × 390,625 = {part * 390_625:,}."
+        self.assertIn(worked, prose(title))
+
+    def test_unlike_steps(self) -> None:
+        (file,), (six, _) = hexadecimal("The survey file"), hexadecimal("The grid program")
+        with self.assertRaises(exact.Refused) as caught:
+            exact_survey.esri_program(six + file)
+        written = f"it writes `refused {caught.exception.number}`"
+        self.assertIn(written, prose("The grid program"))
 
 
 if __name__ == "__main__":
