@@ -1,5 +1,5 @@
 -- What writing an Esri ASCII grid answers and leaves: where 7, 16 or 6 refuses it, and where the text's length decides.
-use mathlib.Core.Path.{_≡_, refl, sym, _∙_}
+use mathlib.Core.Path.{_≡_, refl, _∙_}
 use Prim.Native.Nat.{ℕ, _≤_, _<_}
 use mathlib.Core.List.{List, _++_}
 use lib.ListN.{length, drop}

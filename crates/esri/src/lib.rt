@@ -1,10 +1,7 @@
 // The Esri ASCII grid over a survey: document 02, §2.
 ghost use mathlib.Core.Path.{_≡_};
 ghost use lib.ListN.{length};
-ghost use Rattle.model.specs.Lists.{laid};
-ghost use Rattle.model.specs.Refusals.{enough, afterwards};
 ghost use Rattle.model.specs.Esri.{textOfCells, esriInto};
-ghost use Rattle.survey_file.specs.Written.{told};
 ghost use Rattle.survey.specs.StateOf.{stateOf};
 ghost use Rattle.grid_rules.specs.GridOf.{gridOf};
 ghost use Rattle.grid_cells.specs.CellsRight.{WrittenRight};

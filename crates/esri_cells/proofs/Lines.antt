@@ -1,7 +1,7 @@
 -- A row's line cell by cell, what is left of it in each turn of `put_row`, and how long it is.
 use mathlib.Core.Path.{_≡_, refl, ap}
 use mathlib.Core.Bool.{cond}
-use mathlib.Core.List.{List, [], _∷_, _++_, map, append-assoc}
+use mathlib.Core.List.{List, [], _∷_, _++_, append-assoc}
 use Prim.Native.Nat.{ℕ, suc, _+_, _-_, _≤_, _<_}
 use native.Mathlib.Numerals.{add-one}
 use native.Mathlib.Omega.{arith}
@@ -32,7 +32,7 @@ left-line [] h = absurd (omega arith)
 left-line (a ∷ []) h = refl
 left-line (a ∷ b ∷ l) h = rw (ne-eqb (length (b ∷ l)) 0 (λ k. absurd (omega arith)), left-line (b ∷ l) (omega arith), append-assoc (cellText a) (32 ∷ rowLine (b ∷ l)) (10 ∷ []))
 
-pub left-more : (l : List ℤ) (i : ℕ) → i < length l
+left-more : (l : List ℤ) (i : ℕ) → i < length l
     → leftOf (drop i l) ≡ cellText (getD l i (pos 0)) ++ (cond (eqb (length l - (i + 1)) 0) 10 32 ∷ leftOf (drop (i + 1) l))
 unfolding leftOf
 left-more l i h = rw (drop-cons l i (pos 0) h, length-drop (suc i) l, add-one i)

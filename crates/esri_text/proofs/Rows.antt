@@ -23,7 +23,7 @@ use Rattle.esri_text.specs.Parts.{OfCells, rowsText}
 abbrev pub leftRows : ℕ → List ℤ → ℕ → List ℕ
 leftRows c l n = ended (map rowLine (rowsDown c l n))
 
-pub row-first : (c : ℕ) (l : List ℤ) (n : ℕ) → leftRows c l (suc n) ≡ (rowLine (take c (drop (c * n) l)) ++ (10 ∷ [])) ++ leftRows c l n
+row-first : (c : ℕ) (l : List ℤ) (n : ℕ) → leftRows c l (suc n) ≡ (rowLine (take c (drop (c * n) l)) ++ (10 ∷ [])) ++ leftRows c l n
 unfolding flatMap rowsDown
 row-first c l n = refl
 
@@ -48,13 +48,13 @@ rows-size c l (suc n) p h =
     rw (row-first c l n, e, take-add (c * n) c l, cells-joined (take (c * n) l) r)
     (omega (arith, length-append (rowLine r ++ (10 ∷ [])) (leftRows c l n), length-append (rowLine r) (10 ∷ []), size, rows-size c l n p (omega (arith, m))))
 
-pub rows-length : (g : Grid) (l : List ℤ) → OfCells g l → length (rowsText g l) ≡ cellsLength l
+rows-length : (g : Grid) (l : List ℤ) → OfCells g l → length (rowsText g l) ≡ cellsLength l
 rows-length g l h =
     let all : take (g .columns * g .rows) l ≡ l = take-all (g .columns * g .rows) l (omega (arith, h .1)) in
     rw all at (rows-size (g .columns) l (g .rows) (h .0) (omega (arith, h .1)))
 
 -- the header, and then the rows
-pub text-parts : (g : Grid) (l : List ℤ) → textOfCells g l ≡ ended (headerLines g) ++ rowsText g l
+text-parts : (g : Grid) (l : List ℤ) → textOfCells g l ≡ ended (headerLines g) ++ rowsText g l
 unfolding textOfCells
 text-parts g l = flatMap-append (λ t. t ++ (10 ∷ [])) (headerLines g) (map rowLine (rowsDown (g .columns) l (g .rows)))
 

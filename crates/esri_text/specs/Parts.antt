@@ -1,6 +1,6 @@
 -- The parts of an Esri ASCII grid as they are written: what a list holds once a part of it is, the cells that are asked for, and the rows' lines.
 use mathlib.Core.Path.{_≡_}
-use Prim.Native.Nat.{ℕ, _*_, _≤_, _<_}
+use Prim.Native.Nat.{ℕ, _≤_, _<_}
 use mathlib.Core.List.{List, _++_, map}
 use lib.IntN.{ℤ}
 use lib.ListN.{length, take, drop}

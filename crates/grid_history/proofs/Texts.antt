@@ -1,5 +1,5 @@
 -- §2 of every program: whatever the calls, an Esri ASCII grid that is written after them states the grid over what the model says is present.
-use mathlib.Core.Path.{_≡_, refl, sym, ap, _∙_}
+use mathlib.Core.Path.{_≡_, refl, sym, _∙_}
 use Prim.Native.Nat.{ℕ, _<_}
 use native.Mathlib.Omega.{arith}
 use mathlib.Core.Bool.{Bool, true, false, cond}

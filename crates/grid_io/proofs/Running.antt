@@ -1,5 +1,5 @@
 -- How a run ends: with the text of a refusal, or with what was written.
-use mathlib.Core.Path.{_≡_, refl, sym, _∙_}
+use mathlib.Core.Path.{_≡_, _∙_}
 use Prim.Native.Nat.{ℕ}
 use mathlib.Core.List.{List}
 use lib.ListN.{length}
@@ -14,7 +14,7 @@ use Rattle.survey_file.specs.declared.Written.{Written}
 use Rattle.survey_file.specs.declared.Written.the-variants.{Length, Refused}
 use Rattle.survey_file.specs.Written.{told}
 use Rattle.survey_file.proofs.Told.{told-refused, told-length, told-front}
-use Rattle.grid_cells.specs.CellsRight.{CellsRight, WrittenRight}
+use Rattle.grid_cells.specs.CellsRight.{WrittenRight}
 use Rattle.grid_cells.proofs.Told.{right-written}
 use Rattle.grid_io.specs.declared.Output.{Output}
 use Rattle.grid_io.specs.Output.{Puts, RunsAs}

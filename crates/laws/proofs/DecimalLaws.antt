@@ -1,18 +1,18 @@
 -- How many digits a number has; and what the text of a number states: read from the left it gives the number back, and it starts with no zero but of 0.
 use mathlib.Core.Path.{_≡_, refl, sym, _∙_}
-use mathlib.Core.Bool.{Bool, true, false, cond}
+use mathlib.Core.Bool.{Bool, true, false}
 use mathlib.Core.Option.{some}
 use Prim.Native.Nat.{ℕ, zero, suc, _+_, _-_, _*_, _/_, _%_, _≤_, _<_, _^_}
 use native.Mathlib.Nat.{pow-succ'}
 use native.Mathlib.Numerals.{add-one}
 use native.Mathlib.Omega.{arith}
 use mathlib.Core.List.{List, [], _∷_, _++_}
-use lib.Dec.{ltb, leb}
+use lib.Dec.{ltb}
 use lib.ListN.{length, getD, length-append}
 use borrow.Author.Tests.{ltb-true, ltb-false, lt-ltb, le-ltb, le-leb, eq-eqb, ne-eqb}
 use Rattle.model.specs.Lists.{All}
 use Rattle.model.specs.Decimal.{digitsOf, placesIn, places, decimal, statedAfter, stated, cut}
-use Rattle.laws.proofs.ListLaws.{all-imp, all-append}
+use Rattle.laws.proofs.ListLaws.{all-append}
 
 pub places-one : (most n : ℕ) → n < 10 → placesIn (suc most) n ≡ 1
 unfolding placesIn
@@ -23,7 +23,7 @@ unfolding placesIn
 places-more most n h = rw (le-ltb n 10 h)
 
 -- what follows from a number below ten and from any other
-pub by-ten : {X : Type 0} (n : ℕ) → (n < 10 → X) → (10 ≤ n → X) → X
+by-ten : {X : Type 0} (n : ℕ) → (n < 10 → X) → (10 ≤ n → X) → X
 by-ten {X = X} n f g = go (ltb n 10) refl
   where
     go : (t : Bool) → ltb n 10 ≡ t → X

@@ -1,21 +1,21 @@
 -- The Esri ASCII grid read back: each cell's text is its own number as a decimal, and the lines are the grid's rows, the last one first.
-use mathlib.Core.Path.{_≡_, refl, sym, ap, _∙_}
+use mathlib.Core.Path.{_≡_, refl, _∙_}
 use mathlib.Core.Bool.{Bool, true, _&&_, and-eq-true-iff}
-use mathlib.Core.Option.{Option, some}
+use mathlib.Core.Option.{some}
 use Prim.Native.Nat.{ℕ, zero, suc, _+_, _-_, _*_, _/_, _%_, _≤_, _<_, _^_}
 use native.Mathlib.Nat.{mul-one, mul-suc}
 use native.Mathlib.Omega.{arith}
 use mathlib.Core.List.{List, [], _∷_, _++_, map, flatMap, append-assoc, map-map}
 use lib.Dec.{ltb, lit<}
-use lib.IntN.{ℤ, pos, negsuc, _*ℤ_}
+use lib.IntN.{ℤ, pos, negsuc}
 use lib.ListN.{length, take, drop, length-append, length-drop}
 use lib.Seq.{take-append-seam, take-append-le, length-take-le}
 use borrow.Author.Tests.{ltb-true, ne-eqb}
 use Rattle.model.specs.Lists.{All}
 use Rattle.model.specs.Point.{State}
-use Rattle.model.specs.Fraction.{Fraction, Signed, Is, timesZ}
+use Rattle.model.specs.Fraction.{Fraction, Is, timesZ}
 use Rattle.model.specs.Grid.{Grid, cells}
-use Rattle.model.specs.Decimal.{digitsOf, places, decimal, signedDecimal, stated, cut, pointed, unsignedIn, timesSign, decimalRead}
+use Rattle.model.specs.Decimal.{digitsOf, places, decimal, signedDecimal, cut, unsignedIn, decimalRead}
 use Rattle.model.specs.Esri.{sizeText, cellText, spaced, rowLine, ncols, nrows, xllcenter, yllcenter, cellsize, nodata, headerLine, headerLines, ended, rowsDown, textOfCells, esriText, exactCell, exactRow, linesIn, cellsRead}
 use Rattle.laws.proofs.ListLaws.{all-imp, all-take, all-append, all-map, all-any, map-same}
 use Rattle.laws.proofs.GridLaws.{length-cells}
@@ -102,7 +102,7 @@ cut-ended [] h = refl
 cut-ended (t ∷ l) h =
     rw (append-assoc t (10 ∷ []) (ended l), cut-at 10 t (ended l) (all-imp Inline (λ c. c ≡ 10 → ⊥) (λ c g e. absurd (omega arith)) t (h .0)), cut-ended l (h .1))
 
-pub lines-back : (l : List (List ℕ)) → All (All Inline) l → linesIn (ended l) ≡ l
+lines-back : (l : List (List ℕ)) → All (All Inline) l → linesIn (ended l) ≡ l
 unfolding linesIn
 lines-back l h =
     let e : length (l ++ ([] ∷ [])) - 1 ≡ length l = omega (arith, length-append l ([] ∷ [])) in

@@ -1,14 +1,16 @@
 -- `put_row` meets its contract. The loop's invariant: the cells before the i-th are written, and the rest of the line is left.
-use mathlib.Core.Path.{_≡_, refl, sym, ap, _∙_}
-use Prim.Native.Nat.{_+_, _-_, _≤_, _<_}
+use mathlib.Core.Path.{_≡_, refl, ap, _∙_}
+use Prim.Native.Nat.{_+_, _-_, _≤_}
 use native.Mathlib.Omega.{arith}
-use mathlib.Core.List.{[], _∷_, _++_}
+use mathlib.Core.List.{[], _∷_}
 use lib.IntN.{pos}
 use lib.ListN.{length, getD, drop, drop-of-length-le, length-append, length-take, length-drop}
 use mir.Syntax.{w16}
 use mir.Val.{SFits}
 use mir.Facts.{toZ-ofZ}
 use borrow.Author.Needs.{needs}
+use borrow.Rule.Slice.PartMut.{midOf}
+use Rattle.model.specs.Lists.{laid}
 use Rattle.model.specs.Esri.{cellText, rowLine}
 use Rattle.laws.proofs.Writing.{Writing, none-written, same-size, all-written}
 use Rattle.esri_cells.proofs.Lines.{leftOf, none-left, left-line, cell-room, put-size, cell-put}
@@ -22,6 +24,14 @@ Inv-loop values out₀ at₀ i₀ out at i =
 abbrev μ-loop : tie.MeasureT-loop
 μ-loop values out₀ at₀ i₀ out at i = length values - i
 
+-- in a turn the cell's text and what follows it have room
+room : (c : tie.In-loop Inv-loop μ-loop) → let a = c .before .before .before .args in let l = c .before .loop in
+    l .at + length (cellText (getD (a .values .now) (l .i) (pos 0))) + 1 ≤ length (a .out .now)
+room c =
+    let a = c .before .before .before .args in
+    let l = c .before .loop in
+    cell-room (a .values .now) (a .out .now) (l .i) (l .at) (l .out) (l .inv .3) (omega arith) (l .inv .1)
+
 loop-holds : tie.Need-loop-holds Inv-loop μ-loop
 loop-holds c =
     let l = c .before .args .values .now in
@@ -34,42 +44,29 @@ shared-slice-copy-out-put-cell : tie.Need-shared-slice-copy-out-put-cell Inv-loo
 shared-slice-copy-out-put-cell c = omega arith
 
 sub-put-cell : tie.Need-sub-put-cell Inv-loop μ-loop
-sub-put-cell c =
-    let l = c .before .before .loop in
-    let a = c .before .before .before .before .args in
-    let h = cell-room (a .values .now) (a .out .now) (l .i) (l .at) (l .out) (l .inv .3) (omega arith) (l .inv .1) in
-    omega (arith, h)
+sub-put-cell c = omega (arith, room (c .before))
 
 part-put-cell-start : tie.Need-part-put-cell-start Inv-loop μ-loop
-part-put-cell-start c =
-    let l = c .before .before .loop in
-    let a = c .before .before .before .before .args in
-    let h = cell-room (a .values .now) (a .out .now) (l .i) (l .at) (l .out) (l .inv .3) (omega arith) (l .inv .1) in
-    omega (arith, h)
+part-put-cell-start c = omega (arith, room (c .before))
 
 part-put-cell-end : tie.Need-part-put-cell-end Inv-loop μ-loop
-part-put-cell-end c =
-    let l = c .before .before .loop in
-    let a = c .before .before .before .before .args in
-    let h = cell-room (a .values .now) (a .out .now) (l .i) (l .at) (l .out) (l .inv .3) (omega arith) (l .inv .1) in
-    omega (arith, h)
+part-put-cell-end c = omega (arith, room (c .before))
 
 put-cell-requires : tie.Need-put-cell-requires Inv-loop μ-loop
 put-cell-requires c κs =
     let l = c .before .before .before .loop in
-    let a = c .before .before .before .before .before .args in
-    let h = cell-room (a .values .now) (a .out .now) (l .i) (l .at) (l .out) (l .inv .3) (omega arith) (l .inv .1) in
-    let f : SFits w16 (getD (a .values .now) (l .i) (pos 0)) = search needs in
-    rw (toZ-ofZ f) (simp (length-take, length-drop) (omega (arith, h)))
+    let f : SFits w16 (getD (c .before .before .before .before .before .args .values .now) (l .i) (pos 0)) = search needs in
+    rw (toZ-ofZ f) (simp (length-take, length-drop) (omega (arith, room (c .before .before))))
+
+-- what `put_cell` gives and leaves, of the number as it is read
+put : (c : tie.After-put-cell Inv-loop μ-loop) → let l = c .before .before .before .before .loop in let cell = cellText (getD (c .before .before .before .before .before .before .args .values .now) (l .i) (pos 0)) in
+    (c .put-cell .result ≡ length cell) × (c .put-cell .last .1 .0 ≡ laid cell (midOf (l .at) (length (l .out) - l .at) (l .out)))
+put c =
+    let f : SFits w16 (getD (c .before .before .before .before .before .before .args .values .now) (c .before .before .before .before .loop .i) (pos 0)) = search needs in
+    rw (toZ-ofZ f) at (c .put-cell .ensures)
 
 add-at : tie.Need-add-at Inv-loop μ-loop
-add-at c =
-    let l = c .before .before .before .before .before .before .loop in
-    let a = c .before .before .before .before .before .before .before .before .args in
-    let h = cell-room (a .values .now) (a .out .now) (l .i) (l .at) (l .out) (l .inv .3) (omega arith) (l .inv .1) in
-    let f : SFits w16 (getD (a .values .now) (l .i) (pos 0)) = search needs in
-    let e = rw (toZ-ofZ f) at (c .before .before .put-cell .ensures .0) in
-    omega (arith, h, e)
+add-at c = omega (arith, room (c .before .before .before .before .before), put (c .before .before) .0)
 
 add-i : tie.Need-add-i Inv-loop μ-loop
 add-i c = omega arith
@@ -83,22 +80,12 @@ separator-requires c κs = tt
 slice-write-out : tie.Need-slice-write-out Inv-loop μ-loop
 slice-write-out c =
     let l = c .before .before .before .before .before .before .before .loop in
-    let a = c .before .before .before .before .before .before .before .before .before .args in
-    let h = cell-room (a .values .now) (a .out .now) (l .i) (l .at) (l .out) (l .inv .3) (omega arith) (l .inv .1) in
-    let f : SFits w16 (getD (a .values .now) (l .i) (pos 0)) = search needs in
-    let p = c .before .before .before .put-cell in
-    let e = rw (toZ-ofZ f) at (p .ensures) in
-    let s = put-size (l .out) (cellText (getD (a .values .now) (l .i) (pos 0))) (l .at) (omega (arith, h)) in
-    rw (e .1) (omega (arith, h, e .0, s))
+    let p = put (c .before .before .before) in
+    let h = room (c .before .before .before .before .before .before) in
+    rw (p .1) (omega (arith, h, p .0, put-size (l .out) (cellText (getD (c .before .before .before .before .before .before .before .before .before .args .values .now) (l .i) (pos 0))) (l .at) (omega (arith, h))))
 
 add-at-2 : tie.Need-add-at-2 Inv-loop μ-loop
-add-at-2 c =
-    let l = c .before .before .before .before .before .before .before .loop in
-    let a = c .before .before .before .before .before .before .before .before .before .args in
-    let h = cell-room (a .values .now) (a .out .now) (l .i) (l .at) (l .out) (l .inv .3) (omega arith) (l .inv .1) in
-    let f : SFits w16 (getD (a .values .now) (l .i) (pos 0)) = search needs in
-    let e = rw (toZ-ofZ f) at (c .before .before .before .put-cell .ensures .0) in
-    omega (arith, h, e)
+add-at-2 c = omega (arith, room (c .before .before .before .before .before .before), put (c .before .before .before) .0)
 
 loop-less : tie.Need-loop-less Inv-loop μ-loop
 loop-less c = omega arith
@@ -107,12 +94,10 @@ loop-again : tie.Need-loop-again Inv-loop μ-loop
 loop-again c =
     let l = c .before .before .before .before .before .before .before .loop in
     let a = c .before .before .before .before .before .before .before .before .before .args in
-    let h = cell-room (a .values .now) (a .out .now) (l .i) (l .at) (l .out) (l .inv .3) (omega arith) (l .inv .1) in
-    let f : SFits w16 (getD (a .values .now) (l .i) (pos 0)) = search needs in
-    let p = c .before .before .before .put-cell in
-    let e = rw (toZ-ofZ f) at (p .ensures) in
+    let p = put (c .before .before .before) in
+    let h = room (c .before .before .before .before .before .before) in
     let w = cell-put (a .values .now) (a .out .now) (l .i) (l .at) (l .out) (l .inv .3) (omega arith) (l .inv .1) (length (l .out) - l .at) (omega (arith, h)) in
-    rw (e .1, e .0, c .separator .ensures) (omega arith, l .inv .1, same-size w (omega (arith, h)), w)
+    rw (p .1, p .0, c .separator .ensures) (omega arith, l .inv .1, same-size w (omega (arith, h)), w)
 
 same-length : tie.Need-same-length Inv-loop μ-loop
 same-length c = c .before .loop .inv .2

@@ -1,6 +1,4 @@
 -- `put_line` meets its contract: a line at the front of the end of the list.
-use mathlib.Core.Path.{ap, _∙_}
-use Prim.Native.Nat.{ℕ, _+_}
 use native.Mathlib.Omega.{arith}
 use borrow.Author.Needs.{needs}
 use Rattle.digits.specs.Line.{lineOf}

@@ -1,5 +1,4 @@
 -- `write` meets its contract: the rows are written behind the header, and nothing is left behind them.
-use mathlib.Core.Path.{sym, _∙_}
 use native.Mathlib.Omega.{arith}
 use Prim.Native.Nat.{_-_}
 use lib.ListN.{length, length-take, length-drop}

@@ -3,7 +3,6 @@ use mathlib.Core.Path.{sym, _∙_}
 use native.Mathlib.Omega.{arith}
 use lib.ListN.{drop, length-append, length-drop}
 use lib.Seq.{length-take-le, take-at}
-use borrow.Author.Needs.{needs}
 use Rattle.model.specs.Grid.{cellCount, cells}
 use Rattle.laws.proofs.GridLaws.{few-cells, length-cells}
 use Rattle.survey.specs.StateOf.{stateOf}

@@ -1,8 +1,6 @@
 -- `read` meets its contract: a file that is read gives the preamble's length by its count.
-use mathlib.Core.Path.{_≡_}
 use native.Mathlib.Omega.{arith}
 use borrow.Author.Needs.{needs}
-use Rattle.model.specs.SurveyFile.{fileRefusal}
 use Rattle.survey.proofs.Replying.{load-number, load-state}
 use Rattle.grid_io.proofs.Reading.{file-refused, too-short, long-enough}
 use Rattle.grid_io.proofs.read.Statement.{statement}
