@@ -2,6 +2,8 @@
  *
  *   bench agree SURVEYS    random surveys: the same answer, count and radius from each, at 256 locations of each survey
  *   bench repeat POINTS N  4,096 random lookups of the library in a random survey of so many points, N times; prints nothing
+ *   bench grid POINTS N    the grid file of 64 by 64 over the domain in such a survey, N times; prints nothing
+ *   bench text POINTS N    the same as an Esri ASCII grid
  *   bench time ROUNDS      the table: nanoseconds a lookup, milliseconds a grid of 64 by 64; the best of ROUNDS, the variants in turn
  */
 #include "reference.h"
@@ -111,6 +113,13 @@ static void proved_grid(const File *f) {
     if (shepard_grid_file(f->bytes, f->length, 0, 0, 65, 65, MAX_SIDE, MAX_SIDE, out, sizeof out, &length) != 0) exit(1);
 }
 
+/* The same grid as an Esri ASCII grid. */
+static void proved_text(const File *f) {
+    static uint8_t out[SHEPARD_ESRI_MOST];
+    size_t length;
+    if (shepard_esri(f->bytes, f->length, 0, 0, 65, 65, MAX_SIDE, MAX_SIDE, out, sizeof out, &length) != 0) exit(1);
+}
+
 static void grid_locations(Locations *l) {
     for (l->count = 0; l->count < LOCATIONS; l->count++) {
         l->x[l->count] = (uint16_t)(65 * (l->count % MAX_SIDE));
@@ -161,6 +170,17 @@ static int repeat(int points, int times) {
     return 0;
 }
 
+/* The same of a grid: one more repetition is one grid, the file read among it. */
+static int repeat_grid(int points, int times, void grid(const File *)) {
+    Survey s;
+    File f;
+    seed = 3;
+    survey_draw(&s, points, UNIFORM);
+    file_of(&s, &f);
+    for (int i = 0; i < times; i++) grid(&f);
+    return 0;
+}
+
 /* The process's own time, since the machine may be shared. */
 static double now(void) {
     struct timespec t;
@@ -193,7 +213,7 @@ static void print_ratios(const char *name, double times[CASES][VARIANTS], int v,
 static void times(int rounds) {
     static const int counts[] = {5, 50, 200, 256};
     static Lookups *const variants[VARIANTS] = {form, rank_form, kept, proved};
-    static double least[CASES][VARIANTS], grid[2][3];
+    static double least[CASES][VARIANTS], grid[2][4];
     static Survey surveys[CASES];
     static File files[CASES];
     static Locations random, square;
@@ -204,7 +224,7 @@ static void times(int rounds) {
         file_of(&surveys[c], &files[c]);
         for (int v = 0; v < VARIANTS; v++) least[c][v] = 1e18;
     }
-    for (int i = 0; i < 2; i++) grid[i][0] = grid[i][1] = grid[i][2] = 1e18;
+    for (int i = 0; i < 2; i++) grid[i][0] = grid[i][1] = grid[i][2] = grid[i][3] = 1e18;
     draw_locations(&random, LOCATIONS, DOMAIN);
     grid_locations(&square);
     for (int r = 0; r < rounds; r++) {
@@ -224,6 +244,9 @@ static void times(int rounds) {
             began = now();
             proved_grid(&files[2 + 4 * i]);
             best(&grid[i][2], began);
+            began = now();
+            proved_text(&files[2 + 4 * i]);
+            best(&grid[i][3], began);
         }
     }
     printf("%-36s%8d%8d%8d%8d  %8d%8d%8d%8d\n", "ns a lookup; points:", 5, 50, 200, 256, 5, 50, 200, 256);
@@ -240,12 +263,16 @@ static void times(int rounds) {
     printf("proved, as a grid file              %8.2f  %8.2f\n", grid[0][2] / 1e6, grid[1][2] / 1e6);
     printf("proved / rank-form                  %8.2f  %8.2f\n", grid[0][2] / grid[0][0], grid[1][2] / grid[1][0]);
     printf("proved / kept                       %8.2f  %8.2f\n", grid[0][2] / grid[0][1], grid[1][2] / grid[1][1]);
+    printf("proved, as an Esri ASCII grid       %8.2f  %8.2f\n", grid[0][3] / 1e6, grid[1][3] / 1e6);
+    printf("Esri ASCII grid / grid file         %8.2f  %8.2f\n", grid[0][3] / grid[0][2], grid[1][3] / grid[1][2]);
 }
 
 int main(int argc, char **argv) {
     if (argc == 3 && strcmp(argv[1], "agree") == 0) return agree(atoi(argv[2]));
     if (argc == 4 && strcmp(argv[1], "repeat") == 0) return repeat(atoi(argv[2]), atoi(argv[3]));
+    if (argc == 4 && strcmp(argv[1], "grid") == 0) return repeat_grid(atoi(argv[2]), atoi(argv[3]), proved_grid);
+    if (argc == 4 && strcmp(argv[1], "text") == 0) return repeat_grid(atoi(argv[2]), atoi(argv[3]), proved_text);
     if (argc == 3 && strcmp(argv[1], "time") == 0) return times(atoi(argv[2])), 0;
-    fprintf(stderr, "usage: bench agree SURVEYS | repeat POINTS N | time ROUNDS\n");
+    fprintf(stderr, "usage: bench agree SURVEYS | repeat POINTS N | grid POINTS N | text POINTS N | time ROUNDS\n");
     return 2;
 }

@@ -98,7 +98,7 @@ fn run_call(s: Survey, op: u8, w: [u32; 6], file: &[u8]) -> Survey
 }
 
 // The survey that the calls of the records leave, made one after the other from a fresh one. The files of the loads among them stand one after the other in `files`.
-fn left_by<'a>(records: &'a [u8], files: &'a [u8]) -> Survey
+pub fn left_by<'a>(records: &'a [u8], files: &'a [u8]) -> Survey
     ensures { λ r. ⌜ stateOf r ≡ settled (present (calls (now (records .entry)) (now (files .entry)))) ⌝ }
 {
     let n = records.len() / 25;

@@ -248,7 +248,7 @@ pub decimals-read : (decimalRead (49 ∷ 50 ∷ []) ≡ fraction (pos 12) 1)
 unfolding decimalRead
 decimals-read = (refl, refl, refl, refl)
 
--- cells: 0 has no sign, 1/256, -1/2, -7, and the longest, -128; which is below 0 keeps its sign before a whole part of 0
+-- cells: 0, which has no sign; 1/256; the greatest below 127; -1/256 and -1/2, which keep their sign before a whole part of 0; and -128, the longest
 pub cell-texts : (cellText (pos 0) ≡ 48 ∷ 46 ∷ 48 ∷ 48 ∷ 48 ∷ 48 ∷ 48 ∷ 48 ∷ 48 ∷ 48 ∷ [])
     × (cellText (pos 1) ≡ 48 ∷ 46 ∷ 48 ∷ 48 ∷ 51 ∷ 57 ∷ 48 ∷ 54 ∷ 50 ∷ 53 ∷ [])
     × (cellText (pos 32511) ≡ 49 ∷ 50 ∷ 54 ∷ 46 ∷ 57 ∷ 57 ∷ 54 ∷ 48 ∷ 57 ∷ 51 ∷ 55 ∷ 53 ∷ [])
