@@ -1,5 +1,5 @@
 -- `put_size` meets its contract: digits, point and decimals stand one after the other.
-use Prim.Native.Nat.{_+_, _-_}
+use Prim.Native.Nat.{ℕ, _+_, _-_}
 use native.Mathlib.Omega.{arith}
 use lib.ListN.{set, length-set}
 use borrow.Author.Needs.{needs}
@@ -8,6 +8,10 @@ use Rattle.model.specs.Esri.{sizeText}
 use Rattle.esri_cells.proofs.Cells.{Put, length-size, size-put}
 use Rattle.esri_cells.proofs.put_size.Statement.{statement}
 use Rattle.esri_cells.proofs.put_size.Tie as tie
+
+-- how far behind the whole part the text ends
+abbrev behind : ℕ
+behind = 9
 
 put-requires : tie.Need-put-requires
 put-requires c κs = omega (arith, length-size (c .before .before .args .n))
@@ -38,12 +42,12 @@ spell-requires c κs = search needs
 
 -- what the list holds at the end
 text : (c : tie.After-spell) → let p = c .before .before .before .before .put in let a = c .before .before .before .before .before .before .before .args in
-    Put (sizeText (a .n)) (a .out .now) (putMid (p .result + 1) (p .result + 9 - (p .result + 1)) (set (p .last .1 .0) (p .result) 46) (c .spell .last .1 .0))
+    Put (sizeText (a .n)) (a .out .now) (putMid (p .result + 1) (p .result + behind - (p .result + 1)) (set (p .last .1 .0) (p .result) 46) (c .spell .last .1 .0))
 text c =
     let p = c .before .before .before .before .put in
     let a = c .before .before .before .before .before .before .before .args in
-    let m = mid-len (p .result + 1) (p .result + 9) (set (p .last .1 .0) (p .result) 46) (simp length-set (omega (arith, length-size (a .n), p .ensures .0))) in
-    rw (p .ensures .1) (size-put (a .n) (p .result) (p .result + 9 - (p .result + 1)) (a .out .now) (c .spell .last .1 .0) (p .ensures .0) (omega arith) (rw m at (c .spell .ensures)) (omega arith))
+    let m = mid-len (p .result + 1) (p .result + behind) (set (p .last .1 .0) (p .result) 46) (simp length-set (omega (arith, length-size (a .n), p .ensures .0))) in
+    rw (p .ensures .1) (size-put (a .n) (p .result) (p .result + behind - (p .result + 1)) (a .out .now) (c .spell .last .1 .0) (p .ensures .0) (omega arith) (rw m at (c .spell .ensures)) (omega arith))
 
 same-length : tie.Need-same-length
 same-length c = text (c .before .before) .1
