@@ -21,6 +21,13 @@ pub struct Output {
     pub length: usize,
 }
 
+// Room for an input: one byte more than the longest file has, so that a longer one is told from it.
+pub fn room() -> [u8; 65537]
+    ensures { λ r. ⌜ 65537 ≡ length r ⌝ }
+{
+    [0; 65537]
+}
+
 // No bytes yet.
 pub fn blank() -> [u8; 57434]
     ensures { λ r. ⌜ 57434 ≡ length r ⌝ }
