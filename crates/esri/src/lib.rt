@@ -36,6 +36,6 @@ pub fn write(s: Survey, g: Grid, out: &mut [u8]) -> Written
         return Written::Refused(no);
     }
     let n = grid_rules::cell_count(g);
-    let values = grid_cells::kept(s, g);
+    let values = grid_cells::cells(s, g);
     put(g, &values[..n], out)
 }

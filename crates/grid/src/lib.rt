@@ -41,7 +41,7 @@ fn encode(s: Survey, g: Grid, out: &mut [u8])
     ensures { λ _. ⌜ CellsRight (stateOf s) (gridOf g) ⌝ }
 {
     let n = grid_rules::cell_count(g);
-    let values = grid_cells::kept(s, g);
+    let values = grid_cells::cells(s, g);
     grid_bytes::write(g, &values[..n], out);
 }
 

@@ -65,7 +65,7 @@ fn blank() -> [i16; 4096]
 }
 
 // All cells at the front of an array of their own; what stands behind them is free.
-pub fn kept(s: Survey, g: Grid) -> [i16; 4096]
+pub fn cells(s: Survey, g: Grid) -> [i16; 4096]
     requires { ⌜ (proper (gridOf g) ≡ true) × (0 < length (stateOf s .contents .points)) ⌝ }
     ensures { λ r. ⌜ (take (cellCount (gridOf g)) r ≡ cellsOf (stateOf s) (gridOf g)) × (4096 ≡ length r) ⌝ }
     ensures { λ _. ⌜ CellsRight (stateOf s) (gridOf g) ⌝ }

@@ -35,13 +35,13 @@ passed c = let a = c .before .before .before .before .args in esri-passes (gridO
 cell-count-requires : tie.Need-cell-count-requires
 cell-count-requires c κs = search needs
 
-kept-requires : tie.Need-kept-requires
-kept-requires c κs = let p = passed (c .before) in (p .rules, p .some)
+cells-requires : tie.Need-cells-requires
+cells-requires c κs = let p = passed (c .before) in (p .rules, p .some)
 
 array-share-prefix-values : tie.Need-array-share-prefix-values
 array-share-prefix-values c =
     let n = c .before in
-    omega (arith, few-cells (gridOf (n .before .before .before .before .before .args .g)) (passed (n .before) .rules), n .cell-count .ensures .0, c .kept .ensures .0 .1)
+    omega (arith, few-cells (gridOf (n .before .before .before .before .before .args .g)) (passed (n .before) .rules), n .cell-count .ensures .0, c .cells .ensures .0 .1)
 
 slice-aggregate-put : tie.Need-slice-aggregate-put
 slice-aggregate-put c = sym (length-take-le _ _ (array-share-prefix-values (c .before)))
@@ -66,8 +66,8 @@ returns-2 c =
     let a = n .before .before .before .before .before .args in
     let s = stateOf (a .s) in
     let g = gridOf (a .g) in
-    let put = rw (n .cell-count .ensures .0, k .kept .ensures .0 .0) at (p .put .ensures) in
-    text-decides s g (a .out .now) (sym (decided (n .before .before)) ∙ n .before .if1 .left) (k .kept .ensures .1) (p .put .result) (p .put .last .1 .1 .0) put
+    let put = rw (n .cell-count .ensures .0, k .cells .ensures .0 .0) at (p .put .ensures) in
+    text-decides s g (a .out .now) (sym (decided (n .before .before)) ∙ n .before .if1 .left) (k .cells .ensures .1) (p .put .result) (p .put .last .1 .1 .0) put
 
 pub write-spec : {M : Type 1} → statement M
 write-spec =
@@ -77,7 +77,7 @@ write-spec =
     esri-refusal-requires
     returns
     cell-count-requires
-    kept-requires
+    cells-requires
     array-share-prefix-values
     slice-aggregate-put
     put-requires

@@ -1,4 +1,4 @@
--- `encode` meets its contract: the file of the cells that are kept is the grid's.
+-- `encode` meets its contract: the file of the grid's cells is the grid's.
 use mathlib.Core.Path.{sym}
 use native.Mathlib.Omega.{arith}
 use lib.Seq.{length-take-le}
@@ -12,13 +12,13 @@ use Rattle.grid.proofs.encode.Tie as tie
 cell-count-requires : tie.Need-cell-count-requires
 cell-count-requires c κs = tt
 
-kept-requires : tie.Need-kept-requires
-kept-requires c κs = let b = c .before .before in (b .pre .0, b .pre .1)
+cells-requires : tie.Need-cells-requires
+cells-requires c κs = let b = c .before .before in (b .pre .0, b .pre .1)
 
 array-share-prefix-values : tie.Need-array-share-prefix-values
 array-share-prefix-values c =
     let b = c .before .before .before in
-    omega (arith, few-cells (gridOf (b .args .g)) (b .pre .0), c .before .cell-count .ensures .0, c .kept .ensures .0 .1)
+    omega (arith, few-cells (gridOf (b .args .g)) (b .pre .0), c .before .cell-count .ensures .0, c .cells .ensures .0 .1)
 
 slice-aggregate-write : tie.Need-slice-aggregate-write
 slice-aggregate-write c = sym (length-take-le _ _ (array-share-prefix-values (c .before)))
@@ -38,14 +38,14 @@ unfolding gridFile
 returns c =
     let w = c .before .before in
     let k = w .before .before .before in
-    (rw (w .write .ensures, k .before .cell-count .ensures .0, k .kept .ensures .0 .0), k .kept .ensures .1)
+    (rw (w .write .ensures, k .before .cell-count .ensures .0, k .cells .ensures .0 .0), k .cells .ensures .1)
 
 pub encode-spec : {M : Type 1} → statement M
 encode-spec =
     tie.close
     (tie.spec
     cell-count-requires
-    kept-requires
+    cells-requires
     array-share-prefix-values
     slice-aggregate-write
     write-requires

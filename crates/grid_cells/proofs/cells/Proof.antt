@@ -1,4 +1,4 @@
--- `kept` meets its contract: the front of the room holds the cells.
+-- `cells` meets its contract: the front of the room holds the cells.
 use mathlib.Core.Path.{sym, _∙_}
 use native.Mathlib.Omega.{arith}
 use lib.ListN.{drop, length-append, length-drop}
@@ -7,8 +7,8 @@ use Rattle.model.specs.Grid.{cellCount, cells}
 use Rattle.laws.proofs.GridLaws.{few-cells, length-cells}
 use Rattle.survey.specs.StateOf.{stateOf}
 use Rattle.grid_rules.specs.GridOf.{gridOf}
-use Rattle.grid_cells.proofs.kept.Statement.{statement}
-use Rattle.grid_cells.proofs.kept.Tie as tie
+use Rattle.grid_cells.proofs.cells.Statement.{statement}
+use Rattle.grid_cells.proofs.cells.Tie as tie
 
 cell-count-requires : tie.Need-cell-count-requires
 cell-count-requires c κs = tt
@@ -48,8 +48,8 @@ returns c =
       f .1,
     )
 
-pub kept-spec : {M : Type 1} → statement M
-kept-spec =
+pub cells-spec : {M : Type 1} → statement M
+cells-spec =
     tie.close
     (tie.spec
     cell-count-requires
