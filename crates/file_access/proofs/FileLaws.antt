@@ -12,7 +12,7 @@ use Rattle.model.specs.SurveyFile.{fileRefusal, fileOf, writeRefusal, writtenIn
 use Rattle.model.specs.Calls.{Load}
 use Rattle.survey_file.specs.declared.Written.{Written}
 use Rattle.survey_file.specs.declared.Written.the-variants.{Length, Refused}
-use Rattle.survey_file.specs.Written.{writtenAs}
+use Rattle.survey_file.specs.Written.{told, writtenAs}
 use Rattle.survey.specs.declared.Survey.{Survey}
 use Rattle.survey.specs.declared.Reply.{Reply}
 use Rattle.survey.specs.Replies.{Replies}
@@ -31,7 +31,7 @@ module _ (f : List ℕ) (r : Reply) (reads : Reads f r) (n : ℕ) where
   accepted-file z = rw (← reads .number, eq-eqb (r .refusal) 0 z)
 
 -- the number n of a written file and its length, as they are told
-pub told-written : (n size k m k' : ℕ) → LengthTold (cond (eqb n 0) (Length size) (Refused n)) k m k' → (m ≡ n) × (k' ≡ afterwards m size k)
+pub told-written : (n size k m k' : ℕ) → LengthTold (told n size) k m k' → (m ≡ n) × (k' ≡ afterwards m size k)
 unfolding LengthTold
 told-written n size k m k' h = by-test (eqb n 0) refl h
   where
