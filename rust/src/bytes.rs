@@ -134,3 +134,21 @@ pub fn esri(file: &[u8], grid: &Grid, out: &mut [u8]) -> Result<usize, Refusal> 
     })?;
     Ok(length)
 }
+
+/// The six numbers of a grid file.
+pub fn grid_check(file: &[u8]) -> Result<Grid, Refusal> {
+    let mut g = Grid { x0: 0, y0: 0, step_x: 0, step_y: 0, columns: 0, rows: 0 };
+    // SAFETY: as in `fresh`.
+    unless(unsafe {
+        sys::shepard_grid_check(file.as_ptr(), file.len(), &mut g.x0, &mut g.y0, &mut g.step_x, &mut g.step_y, &mut g.columns, &mut g.rows)
+    })?;
+    Ok(g)
+}
+
+/// The cells of a grid file to the front of `cells`, and how many there are.
+pub fn grid_cells(file: &[u8], cells: &mut [i16]) -> Result<usize, Refusal> {
+    let mut count = 0;
+    // SAFETY: as in `rewrite`.
+    unless(unsafe { sys::shepard_grid_cells(file.as_ptr(), file.len(), cells.as_mut_ptr(), cells.len(), &mut count) })?;
+    Ok(count)
+}

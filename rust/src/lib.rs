@@ -16,37 +16,73 @@
 //! # Ok::<(), shepard::Refusal>(())
 //! ```
 pub mod bytes;
+mod grid;
 mod survey;
 mod sys;
 
+pub use grid::{Grid, GridFile};
 pub use survey::Survey;
 
 /// Why a call is refused, by the method's number.
 #[derive(Clone, Copy, Debug, PartialEq, Eq)]
 pub struct Refusal(pub u8);
 
+impl Refusal {
+    pub const OFF_DOMAIN: Refusal = Refusal(1);
+    pub const OUT_OF_RANGE: Refusal = Refusal(2);
+    pub const POINT_THERE: Refusal = Refusal(3);
+    pub const NO_POINT_THERE: Refusal = Refusal(4);
+    pub const FULL: Refusal = Refusal(5);
+    pub const EMPTY: Refusal = Refusal(6);
+    pub const GRID_RULE: Refusal = Refusal(7);
+    pub const TOO_SHORT: Refusal = Refusal(8);
+    pub const FILE_LENGTH: Refusal = Refusal(9);
+    pub const FILE_MAGIC: Refusal = Refusal(10);
+    pub const FILE_COUNT: Refusal = Refusal(11);
+    pub const FILE_BACK: Refusal = Refusal(12);
+    pub const FILE_SUM: Refusal = Refusal(13);
+    pub const RECORD_DOMAIN: Refusal = Refusal(14);
+    pub const RECORD_ORDER: Refusal = Refusal(15);
+    pub const STEPS_DIFFER: Refusal = Refusal(16);
+
+    /// Why, in words; 9 to 15 of a survey file.
+    pub fn text(self) -> &'static str {
+        match self {
+            Refusal::OFF_DOMAIN => "the location is off the domain",
+            Refusal::OUT_OF_RANGE => "the value is out of range",
+            Refusal::POINT_THERE => "a point is there already",
+            Refusal::NO_POINT_THERE => "no point is there",
+            Refusal::FULL => "256 points are present",
+            Refusal::EMPTY => "no point is present",
+            Refusal::GRID_RULE => "the grid breaks a rule",
+            Refusal::TOO_SHORT => "what is lent is too short",
+            Refusal::FILE_LENGTH => "it has under 12 or over 65,536 bytes",
+            Refusal::FILE_MAGIC => "its last four bytes are not RLS1",
+            Refusal::FILE_COUNT => "its count is above 256",
+            Refusal::FILE_BACK => "its back distance does not fit",
+            Refusal::FILE_SUM => "the sum of its record bytes differs",
+            Refusal::RECORD_DOMAIN => "a record is off the domain",
+            Refusal::RECORD_ORDER => "a record is not after the one before",
+            Refusal::STEPS_DIFFER => "the two steps of an Esri ASCII grid differ",
+            _ => "no such refusal",
+        }
+    }
+
+    /// Why a grid file is refused, in words.
+    pub fn grid_file_text(self) -> &'static str {
+        match self {
+            Refusal::GRID_RULE => "its grid breaks a rule",
+            Refusal::FILE_LENGTH => "no grid file has its length",
+            Refusal::FILE_MAGIC => "its last four bytes are not RLG1",
+            Refusal::FILE_BACK => "its back distance or its length does not go with its six numbers",
+            _ => self.text(),
+        }
+    }
+}
+
 impl std::fmt::Display for Refusal {
     fn fmt(&self, f: &mut std::fmt::Formatter<'_>) -> std::fmt::Result {
-        let why = match self.0 {
-            1 => "a location is off the domain",
-            2 => "the value is out of range",
-            3 => "a point is there already",
-            4 => "no point is there",
-            5 => "256 points are present",
-            6 => "no point is present",
-            7 => "the grid breaks a rule",
-            8 => "what is lent is too short",
-            9 => "the file has under 12 or over 65,536 bytes",
-            10 => "the file's last four bytes are not RLS1",
-            11 => "the file's count is above 256",
-            12 => "the file's back distance does not fit",
-            13 => "the sum of the file's record bytes differs",
-            14 => "a record of the file is off the domain",
-            15 => "a record of the file is not after the one before",
-            16 => "the two steps of an Esri ASCII grid differ",
-            _ => "no such refusal",
-        };
-        write!(f, "refused {}: {why}", self.0)
+        write!(f, "refused {}: {}", self.0, self.text())
     }
 }
 
@@ -69,6 +105,14 @@ pub enum Kind {
     Edge,
 }
 
+/// A measured point.
+#[derive(Clone, Copy, Debug, PartialEq, Eq)]
+pub struct Point {
+    pub x: u16,
+    pub y: u16,
+    pub z: i8,
+}
+
 /// A chosen point.
 #[derive(Clone, Copy, Debug, PartialEq, Eq)]
 pub struct Neighbour {
@@ -77,15 +121,4 @@ pub struct Neighbour {
     pub z: i8,
     pub distance: u32,
     pub kind: Kind,
-}
-
-/// A grid's six numbers: the first column and row stand at (x0, y0), the others a step apart.
-#[derive(Clone, Copy, Debug, PartialEq, Eq)]
-pub struct Grid {
-    pub x0: u16,
-    pub y0: u16,
-    pub step_x: u16,
-    pub step_y: u16,
-    pub columns: u16,
-    pub rows: u16,
 }

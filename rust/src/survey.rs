@@ -1,5 +1,5 @@
 //! A survey that owns its file's bytes.
-use crate::{bytes, Found, Grid, Kind, Neighbour, Refusal};
+use crate::{bytes, Found, Grid, GridFile, Kind, Neighbour, Point, Refusal};
 
 /// Bytes of the longest file that is written.
 const FILE_MOST: usize = 5 * 256 + 12;
@@ -53,6 +53,11 @@ impl Survey {
         bytes::check(&self.file).expect("a survey holds an accepted file")
     }
 
+    /// The points, ascending by x, then y.
+    pub fn points(&self) -> Vec<Point> {
+        self.file.chunks_exact(5).take(self.count()).map(|b| Point { x: word(b), y: word(&b[2..]), z: b[4] as i8 }).collect()
+    }
+
     /// A new point.
     pub fn add(&mut self, x: u32, y: u32, z: i32) -> Result<(), Refusal> {
         self.file = written(FILE_MOST, |out| bytes::add(&self.file, x, y, z, out))?;
@@ -104,8 +109,7 @@ impl Survey {
 
     /// The grid's cells, row by row, y ascending, x ascending within a row.
     pub fn grid(&self, grid: &Grid) -> Result<Vec<i16>, Refusal> {
-        let file = self.grid_file(grid)?;
-        Ok(file[..file.len() - 20].chunks_exact(2).map(|b| word(b) as i16).collect())
+        Ok(GridFile::read(&self.grid_file(grid)?)?.cells)
     }
 
     /// The Esri ASCII grid: six lines before the cells, then rows from the highest y down, each cell in register steps with eight decimals.

@@ -53,4 +53,15 @@ extern "C" {
         out_length: usize,
         length: *mut usize,
     ) -> u8;
+    pub fn shepard_grid_check(
+        file: *const u8,
+        file_length: usize,
+        x0: *mut u16,
+        y0: *mut u16,
+        step_x: *mut u16,
+        step_y: *mut u16,
+        columns: *mut u16,
+        rows: *mut u16,
+    ) -> u8;
+    pub fn shepard_grid_cells(file: *const u8, file_length: usize, cells: *mut i16, cells_length: usize, count: *mut usize) -> u8;
 }
