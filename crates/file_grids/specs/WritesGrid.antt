@@ -12,9 +12,6 @@ use Rattle.model.specs.Esri.{esriText, esriRefusal}
 use Rattle.model.specs.Program.{stateIn}
 use Rattle.grid_cells.specs.CellsRight.{CellsRight}
 
-abbrev pub gridFrom : ℕ → ℕ → ℕ → ℕ → ℕ → ℕ → Grid
-gridFrom x0 y0 stepX stepY columns rows = record { x0 = x0; y0 = y0; stepX = stepX; stepY = stepY; columns = columns; rows = rows }
-
 -- bytes `text` that hold the cells of g, into the lent bytes d, and their length into the lent number k: refused as the file f is, then as the grid is.
 -- The cells' rounding, which the paper leaves free, is that of the definition; `right` holds of it
 pub record WritesCells (f : List ℕ) (g : Grid) (refusal : ℕ) (text d : List ℕ) (k no : ℕ) (d' : List ℕ) (k' : ℕ) : Type 0 where

@@ -1,7 +1,7 @@
 // Grids over a survey file's points, from bytes to bytes: the grid file, and the Esri ASCII grid.
 ghost use mathlib.Core.Path.{_≡_};
-ghost use Rattle.grid_rules.specs.GridOf.{gridOf};
-ghost use Rattle.file_grids.specs.WritesGrid.{gridFrom, WritesGrid, WritesEsri};
+ghost use Rattle.grid_rules.specs.GridOf.{gridOf, gridFrom};
+ghost use Rattle.file_grids.specs.WritesGrid.{WritesGrid, WritesEsri};
 use grid::Grid;
 
 fn grid_from(x0: u16, y0: u16, step_x: u16, step_y: u16, columns: u16, rows: u16) -> Grid

@@ -10,7 +10,7 @@ use Rattle.model.specs.Grid.{Grid, cellCount, gridRefusal, cells, cellsInto}
 use Rattle.model.specs.GridFile.{gridFile, gridFileLength, gridFileRefusal, gridFileInto}
 use Rattle.laws.proofs.GridLaws.{length-cells, length-grid-file}
 use Rattle.survey_file.specs.declared.Written.the-variants.{Length, Refused as Written·Refused}
-use Rattle.grid.specs.declared.Filled.the-variants.{Cells, Refused}
+use Rattle.grid_rules.specs.declared.Filled.the-variants.{Cells, Refused}
 use Rattle.grid_cells.specs.CellsRight.{CellsRight, WrittenRight}
 use Rattle.grid.specs.FilledAs.{filledAs, FilledRight, gridWrittenAs}
 

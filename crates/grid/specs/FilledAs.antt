@@ -9,8 +9,8 @@ use Rattle.model.specs.GridFile.{gridFile, gridFileRefusal}
 use Rattle.survey_file.specs.declared.Written.{Written}
 use Rattle.survey_file.specs.Written.{told}
 use Rattle.grid_cells.specs.CellsRight.{CellsRight}
-use Rattle.grid.specs.declared.Filled.{Filled}
-use Rattle.grid.specs.declared.Filled.the-variants.{Cells, Refused}
+use Rattle.grid_rules.specs.declared.Filled.{Filled}
+use Rattle.grid_rules.specs.declared.Filled.the-variants.{Cells, Refused}
 
 -- a grid's cells into n lent ones
 unfoldable pub filledAs : State → Model·Grid → ℕ → Filled

@@ -9,15 +9,10 @@ ghost use Rattle.grid_rules.specs.GridOf.{gridOf};
 ghost use Rattle.survey.specs.StateOf.{stateOf};
 ghost use Rattle.grid_cells.specs.CellsRight.{CellsRight, WrittenRight};
 ghost use Rattle.grid.specs.FilledAs.{filledAs, FilledRight, gridWrittenAs};
+pub use grid_rules::Filled;
 pub use grid_rules::Grid;
 use survey::Survey;
 use survey_file::Written;
-
-// What filling cells answers: how many were filled, or the refusal's number.
-pub enum Filled {
-    Cells(usize),
-    Refused(u8),
-}
 
 // The grid's cells to the front of the lent ones, and how many they are: refusals 7, 6, 8.
 pub fn cells(s: Survey, g: Grid, out: &mut [i16]) -> Filled

@@ -8,7 +8,8 @@ use Rattle.model.specs.Lists.{laid}
 use Rattle.model.specs.Point.{State}
 use Rattle.model.specs.Refusals.{orElse, afterwards}
 use Rattle.model.specs.Grid.{Grid}
-use Rattle.model.specs.Program.{gridIn, stateIn, inputRefusal, refusedText, putOut}
+use Rattle.model.specs.GridFile.{gridIn}
+use Rattle.model.specs.Program.{stateIn, inputRefusal, refusedText, putOut}
 use Rattle.laws.proofs.ProgramLaws.{or-first, or-then, refused-output, accepted-output}
 use Rattle.survey_file.specs.declared.Written.{Written}
 use Rattle.survey_file.specs.declared.Written.the-variants.{Length, Refused}

@@ -3,7 +3,8 @@ use mathlib.Core.Path.{_≡_}
 use Prim.Native.Nat.{ℕ, _≤_}
 use mathlib.Core.List.{List}
 use lib.ListN.{length, take}
-use Rattle.model.specs.Program.{gridIn, stateIn}
+use Rattle.model.specs.GridFile.{gridIn}
+use Rattle.model.specs.Program.{stateIn}
 use Rattle.grid_cells.specs.CellsRight.{CellsRight}
 use Rattle.grid_io.specs.declared.Output.{Output as Bytes}
 

@@ -1,17 +1,14 @@
 // What the grid programs share: how their input is read, and what they put out: document 01, "Grid and grid file", and document 02, §2.
 ghost use mathlib.Core.Path.{_≡_};
 ghost use mathlib.Core.List.{List};
-ghost use Prim.Native.Nat.{ℕ, _+_, _≤_, _<_};
+ghost use Prim.Native.Nat.{ℕ};
 ghost use lib.ListN.{length};
 ghost use Rattle.model.specs.Lists.{laid};
-ghost use Rattle.model.specs.Bytes.{wordAt};
 ghost use Rattle.model.specs.Refusals.{afterwards};
-ghost use Rattle.model.specs.Program.{gridIn, refusedText, putOut};
+ghost use Rattle.model.specs.Program.{refusedText, putOut};
 ghost use Rattle.survey_file.specs.Written.{told};
-ghost use Rattle.grid_rules.specs.GridOf.{gridOf};
 ghost use Rattle.grid_io.specs.Input.{Asks};
 ghost use Rattle.grid_io.specs.Output.{Puts};
-use grid_rules::Grid;
 use survey::Reply;
 use survey_file::Written;
 
@@ -33,29 +30,6 @@ pub fn blank() -> [u8; 57434]
     ensures { λ r. ⌜ 57434 ≡ length r ⌝ }
 {
     [0; 57434]
-}
-
-// The number in the two bytes at i.
-fn word(input: &[u8], i: usize) -> u16
-    requires { ⌜ i + 1 < length (now input) ⌝ }
-    ensures { λ r. ⌜ r ≡ wordAt (now (input .entry)) i ⌝ }
-{
-    numbers::word_at(input, i) as u16
-}
-
-// The grid that an input begins with: six numbers, two bytes each.
-pub fn grid_of(input: &[u8]) -> Grid
-    requires { ⌜ 12 ≤ length (now input) ⌝ }
-    ensures { λ r. ⌜ gridOf r ≡ gridIn (now (input .entry)) ⌝ }
-{
-    Grid {
-        x0: word(input, 0),
-        y0: word(input, 2),
-        step_x: word(input, 4),
-        step_y: word(input, 6),
-        columns: word(input, 8),
-        rows: word(input, 10),
-    }
 }
 
 // The survey of an input: refusals 9 to 15, then 7 of fewer than 12 bytes before the first record.

@@ -13,7 +13,7 @@ pub fn run(input: &[u8]) -> Output
         return grid_io::refusal(asked.refusal);
     }
     let s = asked.survey;
-    let g = grid_io::grid_of(input);
+    let g = grid_trailer::grid_of(input);
     let mut bytes = grid_io::blank();
     let written: Written = grid::write(s, g, &mut bytes);
     grid_io::put_out(written, bytes)

@@ -20,6 +20,12 @@ pub struct Grid {
     pub rows: u16,
 }
 
+// What filling cells answers: how many were filled, or the refusal's number.
+pub enum Filled {
+    Cells(usize),
+    Refused(u8),
+}
+
 // Where column or row i is, counted from 0; it may lie past 16 bits.
 pub fn coordinate(start: u16, step: u16, i: usize) -> u32
     requires { ⌜ i < 64 ⌝ }
@@ -60,7 +66,8 @@ pub fn cell_count(g: Grid) -> usize
     g.columns as usize * g.rows as usize
 }
 
-fn rules_refusal(g: Grid) -> u8
+// Refusal 7, or 0.
+pub fn rules_refusal(g: Grid) -> u8
     ensures { λ r. ⌜ r ≡ cond (proper (gridOf g)) 0 7 ⌝ }
 {
     if is_proper(g) {

@@ -29,6 +29,7 @@ pub mod HistoryInvariant
 pub mod DropLaws
 pub mod ExtentLaws
 pub mod GridLaws
+pub mod GridReadLaws
 pub mod DecimalLaws
 pub mod EsriLaws
 pub mod EsriChecks

@@ -1,12 +1,12 @@
--- Laws of the words that specs/Lists has: facts of every element, carried over, joined, and of parts; tables; and a map to lists, joined and by the element.
+-- Laws of the words that specs/Lists has: facts of every element, carried over, joined, and of parts; tables; a map to lists, joined and by the element; and the part from an index to the end.
 use mathlib.Core.Path.{_≡_, refl}
-use Prim.Native.Nat.{ℕ, zero, suc, _+_, _*_, _<_}
+use Prim.Native.Nat.{ℕ, zero, suc, _+_, _-_, _*_, _<_}
 use native.Mathlib.Nat.{mul-zero, mul-suc}
 use native.Mathlib.Numerals.{add-one}
 use native.Mathlib.Omega.{arith}
 use mathlib.Core.List.{List, [], _∷_, _++_, map, flatMap, append-assoc, append-nil}
-use lib.ListN.{length, take, drop, getD, length-append}
-use lib.Seq.{take-suc}
+use lib.ListN.{length, take, drop, getD, length-append, length-drop}
+use lib.Seq.{take-suc, take-all}
 use Rattle.model.specs.Lists.{tabulate, All, Pairs, Bytes}
 
 module _ {A : Type 0} where
@@ -112,6 +112,10 @@ module _ {A : Type 0} where
   unfolding flatMap
   length-flatMap f k each [] = rw mul-zero
   length-flatMap f k each (a ∷ l) = rw (mul-suc) (omega (arith, length-append (f a) (flatMap f l), each a, length-flatMap f k each l))
+
+-- a part up to the end of a list is all that follows its start
+pub rest-whole : {A : Type 0} (n : ℕ) (l : List A) → take (length l - n) (drop n l) ≡ drop n l
+rest-whole n l = take-all (length l - n) (drop n l) (omega (arith, length-drop n l))
 
 pub byte-at : (l : List ℕ) (i : ℕ) → Bytes l → getD l i 0 < 256
 byte-at l i h = all-at (λ b. b < 256) l i 0 (omega arith) h

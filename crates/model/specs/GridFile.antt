@@ -7,7 +7,7 @@ use lib.IntN.{ℤ}
 use lib.ListN.{length}
 use Rattle.model.specs.Lists.{laid}
 use Rattle.model.specs.Point.{State}
-use Rattle.model.specs.Bytes.{bytes2, bytes4, complement}
+use Rattle.model.specs.Bytes.{wordAt, bytes2, bytes4, complement}
 use Rattle.model.specs.Refusals.{enough}
 use Rattle.model.specs.Grid.{Grid, cells, cellCount, gridCheck}
 
@@ -17,6 +17,10 @@ gridMagic = 0x52 ∷ 0x4C ∷ 0x47 ∷ 0x31 ∷ []
 
 abbrev pub sixNumbers : Grid → List ℕ
 sixNumbers g = bytes2 (g .x0) ++ bytes2 (g .y0) ++ bytes2 (g .stepX) ++ bytes2 (g .stepY) ++ bytes2 (g .columns) ++ bytes2 (g .rows)
+
+-- the six numbers that bytes begin with
+abbrev pub gridIn : List ℕ → Grid
+gridIn f = record { x0 = wordAt f 0; y0 = wordAt f 2; stepX = wordAt f 4; stepY = wordAt f 6; columns = wordAt f 8; rows = wordAt f 10 }
 
 -- a cell: two bytes, in two's complement
 abbrev pub cellBytes : ℤ → List ℕ

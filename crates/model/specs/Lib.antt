@@ -20,6 +20,7 @@ pub mod Calls
 pub mod Invariant
 pub mod Grid
 pub mod GridFile
+pub mod GridReading
 pub mod Decimal
 pub mod Esri
 pub mod Program

@@ -6,21 +6,16 @@ use lib.Dec.{ltb, eqb}
 use Rattle.model.specs.Point.{State}
 use Rattle.model.specs.Extent.{extentOf, surveyOf}
 use Rattle.model.specs.Refusals.{orElse}
-use Rattle.model.specs.Bytes.{wordAt}
 use Rattle.model.specs.SurveyFile.{fileRefusal, filePoints, recordStart}
-use Rattle.model.specs.Grid.{Grid, gridCheck}
-use Rattle.model.specs.GridFile.{gridFile}
+use Rattle.model.specs.Grid.{gridCheck}
+use Rattle.model.specs.GridFile.{gridIn, gridFile}
 use Rattle.model.specs.Decimal.{digitsOf, places, decimal}
 use Rattle.model.specs.Esri.{esriText, esriCheck}
-
--- the six numbers, the first 12 bytes of the input
-abbrev pub gridIn : List ℕ → Grid
-gridIn f = record { x0 = wordAt f 0; y0 = wordAt f 2; stepX = wordAt f 4; stepY = wordAt f 6; columns = wordAt f 8; rows = wordAt f 10 }
 
 abbrev pub stateIn : List ℕ → State
 stateIn f = surveyOf (filePoints f)
 
--- of both: 9 to 15; then 7, of fewer than 12 bytes before the first record
+-- of both: 9 to 15; then 7, of fewer than 12 bytes before the first record, since the first 12 are the six numbers
 unfoldable pub inputRefusal : List ℕ → ℕ
 unfolding fileRefusal
 inputRefusal f = orElse (fileRefusal f) (cond (ltb (recordStart f) 12) 7 0)

@@ -1,3 +1,4 @@
 -- Facts that the proofs of this crate share.
 pub mod Signs
 pub mod Totals
+pub mod Compared

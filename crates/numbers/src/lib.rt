@@ -1,9 +1,9 @@
-// Whole numbers: words of bytes, high byte first, two's complement, the sum of bytes, differences and sizes, and the lesser and the greater of two values.
+// Whole numbers: words of bytes, high byte first, two's complement, bytes compared and summed up, differences and sizes, and the lesser and the greater of two values.
 ghost use mathlib.Core.Path.{_≡_};
 ghost use Prim.Native.Nat.{_+_, _^_, _<_, _≤_};
 ghost use lib.IntN.{natAbs};
 ghost use lib.ListN.{length};
-ghost use Rattle.model.specs.Bytes.{wordAt, longAt, complement, signed, total as totalOf};
+ghost use Rattle.model.specs.Bytes.{wordAt, longAt, complement, signed, same as sameAs, total as totalOf};
 ghost use Rattle.model.specs.Distance.{gap as gapOf};
 ghost use Rattle.model.specs.Extent.{lesser as lesserOf, greater as greaterOf};
 
@@ -30,6 +30,21 @@ pub fn long_at(s: &[u8], i: usize) -> usize
     ensures { λ r. ⌜ r < 2 ^ 32 ⌝ }
 {
     65536 * word_at(s, i) + word_at(s, i + 2)
+}
+
+// Whether as many bytes of one list and of another are the same.
+pub fn same<'a>(s: &'a [u8], t: &'a [u8]) -> bool
+    requires { ⌜ length (now s) ≡ length (now t) ⌝ }
+    ensures { λ r. ⌜ r ≡ sameAs (now (s .entry)) (now (t .entry)) ⌝ }
+{
+    let mut k = 0usize;
+    while k < s.len() {
+        if s[k] != t[k] {
+            return false;
+        }
+        k += 1;
+    }
+    true
 }
 
 // The sum of at most 1,280 bytes.
@@ -65,6 +80,17 @@ pub fn signed_long(n: u32) -> i32
         n as i32
     } else {
         -1 - ((u32::MAX - n) as i32)
+    }
+}
+
+// A number of two bytes in two's complement, as a value.
+pub fn signed_word(n: u16) -> i16
+    ensures { λ r. ⌜ r ≡ signed (2 ^ 15) n ⌝ }
+{
+    if n < 1 << 15 {
+        n as i16
+    } else {
+        -1 - ((u16::MAX - n) as i16)
     }
 }
 

@@ -1,4 +1,4 @@
-// The library for C and Rust. Its state is the bytes of a survey file: a function reads the file, makes one call and writes what comes of it.
+// The library for C and Rust. Its state is the bytes of a survey file: a function reads the file, makes one call and writes what comes of it. Two read a grid file.
 // In C a slice is two parameters, an address and a length. What is lent to be written overlaps nothing else that is handed over.
 // A static library has the functions of its own crate alone, so each call is handed on here to the crate that makes it.
 ghost use mathlib.Core.Path.{_≡_};
@@ -14,7 +14,9 @@ ghost use Rattle.whole_files.specs.Counts.{Counts};
 ghost use Rattle.file_edits.specs.Edits.{Edits};
 ghost use Rattle.file_lookups.specs.FileLookups.{Finds, ManyFound};
 ghost use Rattle.file_neighbours.specs.NeighbourBytes.{neighbourBytes};
-ghost use Rattle.file_grids.specs.WritesGrid.{gridFrom, WritesGrid, WritesEsri};
+ghost use Rattle.grid_rules.specs.GridOf.{gridFrom};
+ghost use Rattle.file_grids.specs.WritesGrid.{WritesGrid, WritesEsri};
+ghost use Rattle.grid_files.specs.GridTold.{GridTold, CellsTold};
 
 // The file of a survey of no points: refusal 8.
 #[no_mangle]
@@ -168,4 +170,30 @@ pub extern "C" fn shepard_esri(
         (now (out .entry)) (now (length .entry)) r (now (out .exit)) (now (length .exit)) ⌝ }
 {
     file_grids::esri(file, x0, y0, step_x, step_y, columns, rows, out, length)
+}
+
+// The six numbers of a grid file: refusals 9, 10, 7, 12.
+#[no_mangle]
+pub extern "C" fn shepard_grid_check(
+    file: &[u8],
+    x0: &mut u16,
+    y0: &mut u16,
+    step_x: &mut u16,
+    step_y: &mut u16,
+    columns: &mut u16,
+    rows: &mut u16,
+) -> u8
+    ensures { λ r. ⌜ GridTold (now (file .entry))
+        (gridFrom (now (x0 .entry)) (now (y0 .entry)) (now («step_x» .entry)) (now («step_y» .entry)) (now (columns .entry)) (now (rows .entry)))
+        r (gridFrom (now (x0 .exit)) (now (y0 .exit)) (now («step_x» .exit)) (now («step_y» .exit)) (now (columns .exit)) (now (rows .exit))) ⌝ }
+{
+    grid_files::check(file, x0, y0, step_x, step_y, columns, rows)
+}
+
+// The cells of a grid file to the front of the lent ones, and how many there are: refusals 9, 10, 7, 12, then 8.
+#[no_mangle]
+pub extern "C" fn shepard_grid_cells(file: &[u8], cells: &mut [i16], count: &mut usize) -> u8
+    ensures { λ r. ⌜ CellsTold (now (file .entry)) (now (cells .entry)) (now (count .entry)) r (now (cells .exit)) (now (count .exit)) ⌝ }
+{
+    grid_files::cells(file, cells, count)
 }

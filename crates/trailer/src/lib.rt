@@ -14,14 +14,7 @@ fn has_magic(s: &[u8], i: usize) -> bool
     requires { ⌜ i + 4 ≡ length (now s) ⌝ }
     ensures { λ r. ⌜ r ≡ same (drop i (now (s .entry))) magic ⌝ }
 {
-    let mut k = 0usize;
-    while k < 4 {
-        if s[i + k] != MAGIC[k] {
-            return false;
-        }
-        k += 1;
-    }
-    true
+    numbers::same(&s[i..], &MAGIC)
 }
 
 // Refusals 9 to 13, or 0.

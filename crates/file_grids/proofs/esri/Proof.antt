@@ -2,9 +2,8 @@
 use lib.ListN.{length}
 use borrow.Author.Needs.{needs}
 use Rattle.model.specs.Esri.{esriText, esriRefusal, esriInto}
-use Rattle.grid_rules.specs.GridOf.{gridOf}
+use Rattle.grid_rules.specs.GridOf.{gridOf, gridFrom}
 use Rattle.esri.specs.EsriWritten.{esriWrittenAs}
-use Rattle.file_grids.specs.WritesGrid.{gridFrom}
 use Rattle.file_grids.proofs.Gridding.{none-written, cells-written}
 use Rattle.file_grids.proofs.esri.Statement.{statement}
 use Rattle.file_grids.proofs.esri.Tie as tie

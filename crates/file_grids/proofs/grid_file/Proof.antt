@@ -2,9 +2,8 @@
 use lib.ListN.{length}
 use borrow.Author.Needs.{needs}
 use Rattle.model.specs.GridFile.{gridFile, gridFileRefusal, gridFileInto}
-use Rattle.grid_rules.specs.GridOf.{gridOf}
+use Rattle.grid_rules.specs.GridOf.{gridOf, gridFrom}
 use Rattle.grid.specs.FilledAs.{gridWrittenAs}
-use Rattle.file_grids.specs.WritesGrid.{gridFrom}
 use Rattle.file_grids.proofs.Gridding.{none-written, cells-written}
 use Rattle.file_grids.proofs.grid_file.Statement.{statement}
 use Rattle.file_grids.proofs.grid_file.Tie as tie

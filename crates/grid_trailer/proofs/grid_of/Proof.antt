@@ -1,7 +1,7 @@
 -- `grid_of` meets its contract by what `word` ensures.
 use borrow.Author.Needs.{needs}
-use Rattle.grid_io.proofs.grid_of.Statement.{statement}
-use Rattle.grid_io.proofs.grid_of.Tie as tie
+use Rattle.grid_trailer.proofs.grid_of.Statement.{statement}
+use Rattle.grid_trailer.proofs.grid_of.Tie as tie
 
 word-requires : tie.Need-word-requires
 word-requires c κs = search needs
