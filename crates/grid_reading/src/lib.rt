@@ -3,6 +3,7 @@ ghost use mathlib.Core.Path.{_≡_};
 ghost use Prim.Native.Nat.{_*_, _≤_};
 ghost use lib.ListN.{length};
 ghost use Rattle.model.specs.GridReading.{cellsOf, cellsReadInto};
+ghost use Rattle.grid_rules.specs.GridOf.{gridOf, gridFrom};
 ghost use Rattle.grid_reading.specs.ReadAs.{OpensAs, cellsReadAs};
 pub use grid_rules::Filled;
 pub use grid_rules::Grid;
@@ -13,7 +14,9 @@ pub struct Opened {
     pub grid: Grid,
 }
 
-fn no_grid() -> Grid {
+fn no_grid() -> Grid
+    ensures { λ r. ⌜ gridOf r ≡ gridFrom 0 0 0 0 0 0 ⌝ }
+{
     Grid {
         x0: 0,
         y0: 0,

@@ -5,7 +5,7 @@ use native.Mathlib.Numerals.{add-one}
 use native.Mathlib.Omega.{arith}
 use native.Mathlib.Nat.{eq-or-lt-of-le}
 use mathlib.Core.Logic.{⊎-elim}
-use mathlib.Core.Bool.{Bool, true, false, not, _||_, _&&_, false≢true}
+use mathlib.Core.Bool.{Bool, true, false, cond, not, _||_, _&&_, false≢true}
 use mathlib.Core.List.{List, [], _∷_, _++_, flatMap}
 use lib.Dec.{eqb}
 use lib.IntN.{ℤ}
@@ -15,9 +15,10 @@ use lib.Seq.{take-at, drop-at, drop-drop, drop-cons, length-take-le}
 use borrow.Author.Tests.{eqb-true, eq-eqb, le-leb, not-false}
 use Rattle.model.specs.Lists.{All, Bytes}
 use Rattle.model.specs.Bytes.{word, wordAt, longAt, bytes2, bytes4, same, complement}
+use Rattle.model.specs.Refusals.{enough}
 use Rattle.model.specs.Grid.{Grid, axis, proper, cellCount}
 use Rattle.model.specs.GridFile.{gridMagic, sixNumbers, gridIn, cellsBytes, gridTrailer, fileOfCells, gridFileLength}
-use Rattle.model.specs.GridReading.{gridTrailerStart, gridOfFile, cellsBack, gridMagicIn, cellsOf, cellsOfFile, someBelow, columnsLength, someLength, gridFileCheck}
+use Rattle.model.specs.GridReading.{gridTrailerStart, gridOfFile, cellsBack, gridMagicIn, cellsOf, cellsOfFile, someBelow, columnsLength, someLength, gridFileCheck, cellsReadRefusal}
 use Rattle.laws.proofs.Tests.{or-true, or-false, cond-zero}
 use Rattle.laws.proofs.ListLaws.{all-take, all-drop, byte-at}
 use Rattle.laws.proofs.Numbers.{word-back, long-back, bytes2-word, bytes4-long, complement-below, signed-back, complement-back}
@@ -161,6 +162,32 @@ readable-check f n a =
     let e : same (gridMagicIn f) gridMagic ≡ true = rw (a .marked) (same-self gridMagic) in
     rw (a .some, e, a .rules, eq-eqb (cellsBack f) (2 * cellCount (gridOfFile f)) (a .back), eq-eqb (length f) (gridFileLength (gridOfFile f)) (a .size))
 
+-- what a file is refused with does not depend on what would follow
+pub check-first : (f : List ℕ) (n : ℕ) → (gridFileCheck f 0 ≡ 0 → ⊥) → gridFileCheck f n ≡ gridFileCheck f 0
+unfolding gridFileCheck
+check-first f n h =
+    go (not (someLength (length f))) (not (same (gridMagicIn f) gridMagic)) (not (proper (gridOfFile f)))
+    (not (eqb (cellsBack f) (2 * cellCount (gridOfFile f))) || not (eqb (length f) (gridFileLength (gridOfFile f)))) h
+  where
+    by : Bool → Bool → Bool → Bool → ℕ → ℕ
+    by a b c d k = cond a 9 (cond b 10 (cond c 7 (cond d 12 k)))
+
+    go : (a b c d : Bool) → (by a b c d 0 ≡ 0 → ⊥) → by a b c d n ≡ by a b c d 0
+    go true b c d k = refl
+    go false true c d k = refl
+    go false false true d k = refl
+    go false false false true k = refl
+    go false false false false k = absurd (k refl)
+
+-- of reading the cells into n lent ones: the file decides, then the room
+pub read-refused : (f : List ℕ) (n : ℕ) → (gridFileCheck f 0 ≡ 0 → ⊥) → cellsReadRefusal f n ≡ gridFileCheck f 0
+unfolding cellsReadRefusal
+read-refused f n h = check-first f (enough n (cellCount (gridOfFile f))) h
+
+pub read-passes : (f : List ℕ) (n : ℕ) → Readable f → cellsReadRefusal f n ≡ enough n (cellCount (gridOfFile f))
+unfolding cellsReadRefusal
+read-passes f n a = readable-check f (enough n (cellCount (gridOfFile f))) a
+
 -- f is accepted, and states g and l
 pub record Reads (f : List ℕ) (g : Grid) (l : List ℤ) : Type 0 where
   pub accepted : gridFileCheck f 0 ≡ 0
@@ -253,12 +280,11 @@ trailer-again t n b h back mark =
     let six = ap₂ _++_ (ap₂ _++_ (ap₂ _++_ (ap₂ _++_ (ap₂ _++_ (two 0) (two 2)) (two 4)) (two 6)) (two 8)) (two 10) in
     ap₂ _++_ (ap₂ _++_ six four) (sym mark) ∙ sym (spelled t h)
 
-module _ (f : List ℕ) (b : Bytes f) (a : Readable f) where
-  pub cells-length : length (cellsOfFile f) ≡ cellCount (gridOfFile f)
-  unfolding cellsOfFile
-  cells-length =
-      omega (arith, length-cells-of (take (gridTrailerStart f) f), length-take-le (gridTrailerStart f) f (omega arith), a .size)
+pub cells-length : (f : List ℕ) → Readable f → length (cellsOfFile f) ≡ cellCount (gridOfFile f)
+unfolding cellsOfFile
+cells-length f a = omega (arith, length-cells-of (take (gridTrailerStart f) f), length-take-le (gridTrailerStart f) f (omega arith), a .size)
 
+module _ (f : List ℕ) (b : Bytes f) (a : Readable f) where
   again : fileOfCells (gridOfFile f) (cellsOfFile f) ≡ f
   unfolding fileOfCells cellsOfFile
   again =

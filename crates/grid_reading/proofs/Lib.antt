@@ -1,0 +1,3 @@
+-- Facts that the proofs of this crate share.
+pub mod Decoded
+pub mod Answers
