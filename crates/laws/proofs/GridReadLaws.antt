@@ -18,7 +18,7 @@ use Rattle.model.specs.Bytes.{word, wordAt, longAt, bytes2, bytes4, same, compl
 use Rattle.model.specs.Refusals.{enough}
 use Rattle.model.specs.Grid.{Grid, axis, proper, cellCount}
 use Rattle.model.specs.GridFile.{gridMagic, sixNumbers, gridIn, cellsBytes, gridTrailer, fileOfCells, gridFileLength}
-use Rattle.model.specs.GridReading.{gridTrailerStart, gridOfFile, cellsBack, gridMagicIn, cellsOf, cellsOfFile, someBelow, columnsLength, someLength, gridFileCheck, cellsReadRefusal}
+use Rattle.model.specs.GridReading.{gridTrailerStart, gridOfFile, cellsBack, gridMagicIn, cellsOf, cellsOfFile, someBelow, columnsLength, someLength, gridFileCheck, cellsReadRefusal, States, TwoBytes}
 use Rattle.laws.proofs.Tests.{or-true, or-false, cond-zero}
 use Rattle.laws.proofs.ListLaws.{all-take, all-drop, byte-at}
 use Rattle.laws.proofs.Numbers.{word-back, long-back, bytes2-word, bytes4-long, complement-below, signed-back, complement-back}
@@ -116,16 +116,7 @@ length-cells-of [] = refl
 length-cells-of (a ∷ []) = refl
 length-cells-of (a ∷ b ∷ r) = omega (arith, length-cells-of r)
 
--- six numbers of 16 bits
-pub record Words (g : Grid) : Type 0 where
-  pub x0 : g .x0 < 65536
-  pub y0 : g .y0 < 65536
-  pub stepX : g .stepX < 65536
-  pub stepY : g .stepY < 65536
-  pub columns : g .columns < 65536
-  pub rows : g .rows < 65536
-
-six-back : (g : Grid) (r : List ℕ) → Words g → gridIn (sixNumbers g ++ r) ≡ g
+six-back : (g : Grid) (r : List ℕ) → TwoBytes g → gridIn (sixNumbers g ++ r) ≡ g
 six-back g r h =
     let back : (n : ℕ) → n < 65536 → word (n / 256 % 256) (n % 256) ≡ n = λ n k. omega (arith, word-back n) in
     rw (back (g .x0) (h .x0), back (g .y0) (h .y0), back (g .stepX) (h .stepX), back (g .stepY) (h .stepY), back (g .columns) (h .columns), back (g .rows) (h .rows))
@@ -188,13 +179,7 @@ pub read-passes : (f : List ℕ) (n : ℕ) → Readable f → cellsReadRefusal f
 unfolding cellsReadRefusal
 read-passes f n a = readable-check f (enough n (cellCount (gridOfFile f))) a
 
--- f is accepted, and states g and l
-pub record Reads (f : List ℕ) (g : Grid) (l : List ℤ) : Type 0 where
-  pub accepted : gridFileCheck f 0 ≡ 0
-  pub grid : gridOfFile f ≡ g
-  pub cells : cellsOfFile f ≡ l
-
-module _ (g : Grid) (l : List ℤ) (rules : proper g ≡ true) (words : Words g) (size : length l ≡ cellCount g) (fits : All Fits l) where
+module _ (g : Grid) (l : List ℤ) (rules : proper g ≡ true) (words : TwoBytes g) (size : length l ≡ cellCount g) (fits : All Fits l) where
   abbrev file : List ℕ
   file = fileOfCells g l
 
@@ -229,7 +214,7 @@ module _ (g : Grid) (l : List ℤ) (rules : proper g ≡ true) (words : Words g)
   front : take (gridTrailerStart file) file ≡ body
   front = rw (start, parts) (take-at body end (length body) refl)
 
-  pub file-read : Reads (fileOfCells g l) g l
+  pub file-read : States (fileOfCells g l) g l
   unfolding cellsOfFile
   file-read =
       let doubled : length body ≡ 2 * cellCount g = omega (arith, length-cells-bytes l) in

@@ -30,6 +30,7 @@ pub mod DropLaws
 pub mod ExtentLaws
 pub mod GridLaws
 pub mod GridReadLaws
+pub mod GridBack
 pub mod DecimalLaws
 pub mod EsriLaws
 pub mod EsriChecks

@@ -1,5 +1,5 @@
 -- Closed cases that hold the definitions to documents 01 and 02: the starred rows of the bench table, `closed-rows`; rows of our own that these cannot replace,
--- `further`, `calls`, `kept`, `lent`, `files`, `refusals`, `grids`, `decimals`, `decimals-read`, `cell-texts` and `texts`; and the whole case, as a grid file and as an Esri ASCII grid.
+-- `further`, `calls`, `kept`, `lent`, `files`, `refusals`, `grids`, `readings`, `decimals`, `decimals-read`, `cell-texts` and `texts`; and the whole case, as a grid file and as an Esri ASCII grid.
 use Prim.Native.Nat.{ℕ, _+_}
 use mathlib.Core.Path.{_≡_, refl}
 use mathlib.Core.Bool.{true, false}
@@ -23,6 +23,7 @@ use Rattle.model.specs.Lent.{neighboursInto}
 use Rattle.model.specs.SurveyFile.{fault, wrongSize, fileRefusal, fileOf}
 use Rattle.model.specs.Calls.{Call, Add, Change, Drop, Clear, Load, Ask, refusal, fresh, present, edited}
 use Rattle.model.specs.Grid.{Grid, gridRefusal, cells}
+use Rattle.model.specs.GridReading.{gridOfFile, cellsOfFile, someLength, gridFileCheck, cellsReadRefusal, cellsReadInto}
 use Rattle.model.specs.Decimal.{digitsOf, places, decimal, signedDecimal, decimalRead}
 use Rattle.model.specs.Esri.{cellText, esriText, esriRefusal, esriInto, cellsRead}
 use Rattle.model.specs.Program.{gridProgram, esriProgram}
@@ -225,6 +226,33 @@ pub whole-case : gridProgram wholeInput
     ≡ 0xF9 ∷ 0 ∷ 0xF9 ∷ 0 ∷ 0 ∷ 0 ∷ 0 ∷ 0 ∷ 0 ∷ 1 ∷ 0 ∷ 1 ∷ 0 ∷ 2 ∷ 0 ∷ 1 ∷ 0 ∷ 0 ∷ 0 ∷ 4 ∷ 0x52 ∷ 0x4C ∷ 0x47 ∷ 0x31 ∷ []
 unfolding gridProgram
 whole-case = refl
+
+-- a grid file of the cells l, two numbers c and r of columns and rows, a back distance b and the magic's last byte m
+abbrev gridBytes : List ℕ → ℕ → ℕ → ℕ → ℕ → List ℕ
+gridBytes l c r b m = l ++ (0 ∷ 7 ∷ 1 ∷ 2 ∷ 0 ∷ 3 ∷ 0 ∷ 4 ∷ 0 ∷ c ∷ 0 ∷ r ∷ 0 ∷ 0 ∷ 0 ∷ b ∷ 0x52 ∷ 0x4C ∷ 0x47 ∷ m ∷ [])
+
+-- two cells, -3 and 261 256ths
+abbrev gridOfTwo : List ℕ
+gridOfTwo = gridBytes (0xFF ∷ 0xFD ∷ 1 ∷ 5 ∷ []) 2 1 4 0x31
+
+-- reading a grid file: the lengths that some grid has (of 1, 2, 64, 65, 4,096 cells), and that none has (no cell, an odd byte, 67 cells, above 4,096);
+-- each refusal, and which of two comes first; the six numbers and the cells; lent cells that are too few, and more
+pub readings : (map someLength (22 ∷ 24 ∷ 148 ∷ 150 ∷ 8212 ∷ []) ≡ true ∷ true ∷ true ∷ true ∷ true ∷ [])
+    × (map someLength (0 ∷ 20 ∷ 21 ∷ 23 ∷ 154 ∷ 8213 ∷ 8214 ∷ []) ≡ false ∷ false ∷ false ∷ false ∷ false ∷ false ∷ false ∷ [])
+    × (gridFileCheck gridOfTwo 0 ≡ 0)
+    × (gridFileCheck (gridBytes (1 ∷ []) 0 1 4 0x32) 0 ≡ 9)
+    × (gridFileCheck (gridBytes (1 ∷ 2 ∷ 3 ∷ 4 ∷ []) 0 1 4 0x32) 0 ≡ 10)
+    × (gridFileCheck (gridBytes (1 ∷ 2 ∷ 3 ∷ 4 ∷ []) 65 1 3 0x31) 0 ≡ 7)
+    × (gridFileCheck (gridBytes (1 ∷ 2 ∷ 3 ∷ 4 ∷ []) 2 1 2 0x31) 0 ≡ 12)
+    × (gridFileCheck (gridBytes (1 ∷ 2 ∷ 3 ∷ 4 ∷ 5 ∷ 6 ∷ []) 2 1 4 0x31) 0 ≡ 12)
+    × (gridFileCheck (gridBytes (1 ∷ 2 ∷ []) 2 1 4 0x31) 0 ≡ 12)
+    × (gridOfFile gridOfTwo ≡ record { x0 = 7; y0 = 258; stepX = 3; stepY = 4; columns = 2; rows = 1 })
+    × (cellsOfFile gridOfTwo ≡ negsuc 2 ∷ pos 261 ∷ [])
+    × (map (cellsReadRefusal gridOfTwo) (0 ∷ 1 ∷ 2 ∷ 3 ∷ []) ≡ 8 ∷ 8 ∷ 0 ∷ 0 ∷ [])
+    × (cellsReadInto gridOfTwo (pos 9 ∷ pos 9 ∷ pos 9 ∷ []) ≡ negsuc 2 ∷ pos 261 ∷ pos 9 ∷ [])
+    × (cellsReadInto gridOfTwo (pos 9 ∷ []) ≡ pos 9 ∷ [])
+unfolding someLength gridFileCheck cellsOfFile cellsReadRefusal cellsReadInto
+readings = (refl, refl, refl, refl, refl, refl, refl, refl, refl, refl, refl, refl, refl, refl)
 
 -- numbers in decimal: one digit, the seam at ten, 64 bits, a sign, leading zeros up to a width
 pub decimals : (decimal 0 ≡ 48 ∷ [])

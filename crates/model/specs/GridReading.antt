@@ -1,5 +1,6 @@
 -- The grid file read: its six numbers, its cells, and why it is refused. Document 01, "Grid and grid file", has its form.
-use Prim.Native.Nat.{ℕ, zero, suc, _+_, _-_, _*_}
+use mathlib.Core.Path.{_≡_}
+use Prim.Native.Nat.{ℕ, zero, suc, _+_, _-_, _*_, _<_}
 use mathlib.Core.Bool.{Bool, false, cond, not, _||_}
 use mathlib.Core.List.{List, [], _∷_}
 use lib.Dec.{eqb}
@@ -69,3 +70,18 @@ cellsReadRefusal f n = gridFileCheck f (enough n (cellCount (gridOfFile f)))
 unfoldable pub cellsReadInto : List ℕ → List ℤ → List ℤ
 unfolding cellsReadRefusal cellsOfFile
 cellsReadInto f d = afterwards (cellsReadRefusal f (length d)) (laid (cellsOfFile f) d) d
+
+-- f is accepted, and read as the grid g and the cells l
+pub record States (f : List ℕ) (g : Grid) (l : List ℤ) : Type 0 where
+  pub accepted : gridFileCheck f 0 ≡ 0
+  pub grid : gridOfFile f ≡ g
+  pub cells : cellsOfFile f ≡ l
+
+-- six numbers of two bytes each
+pub record TwoBytes (g : Grid) : Type 0 where
+  pub x0 : g .x0 < 65536
+  pub y0 : g .y0 < 65536
+  pub stepX : g .stepX < 65536
+  pub stepY : g .stepY < 65536
+  pub columns : g .columns < 65536
+  pub rows : g .rows < 65536

@@ -1,11 +1,31 @@
-// Text to standard output: words, numbers in decimal, bytes in hexadecimal. Where a write fails there is nobody to tell, and the rest is written all the same.
+// Text to standard output: words, numbers in decimal, bytes in hexadecimal; and a word on standard error where a write or a read failed.
 ghost use Prim.Native.Nat.{_≤_};
 ghost use lib.ListN.{length};
+use libc::STDERR_FILENO;
+use libc::STDIN_FILENO;
 use libc::STDOUT_FILENO;
 
-// Writes bytes as they are.
+// Says on standard error what failed, and closes it, so that it is said once and not for every word that follows.
+fn tell(what: &[u8]) {
+    io::write_all(STDERR_FILENO, what);
+    libc::close(STDERR_FILENO);
+}
+
+// Writes bytes as they are, and says so where that fails.
 pub fn word(w: &[u8]) {
-    io::write_all(STDOUT_FILENO, w);
+    if !io::write_all(STDOUT_FILENO, w) {
+        tell(b"standard output: a write failed\n");
+    }
+}
+
+// Whether standard input is at its end; where it is not, a read of it failed before, and that is said.
+pub fn input_ended() -> bool {
+    let mut more = [0u8; 1];
+    if libc::read(STDIN_FILENO, &mut more) == 0 {
+        return true;
+    }
+    tell(b"standard input: a read failed\n");
+    false
 }
 
 // Writes a space.

@@ -2,9 +2,13 @@
 ghost use Prim.Native.Nat.{_<_, _≤_};
 use libc::STDIN_FILENO;
 
-// Reads until `out` is full: whether so many bytes came.
+// Reads until `out` is full: whether so many bytes came. Where fewer did, the input has ended or a read failed.
 pub fn fill(out: &mut [u8]) -> bool {
-    io::read_full(STDIN_FILENO, out) == out.len()
+    if io::read_full(STDIN_FILENO, out) == out.len() {
+        return true;
+    }
+    print::input_ended();
+    false
 }
 
 // The bytes of a call's arguments, and whether all of them came.
