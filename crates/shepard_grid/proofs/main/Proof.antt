@@ -14,6 +14,12 @@ slice-aggregate-read-full c = search needs
 read-full-requires : tie.Need-read-full-requires
 read-full-requires c κs = search needs
 
+input-ended-requires : tie.Need-input-ended-requires
+input-ended-requires c κs = search needs
+
+returns : tie.Need-returns
+returns c = search needs
+
 array-share-prefix-input : tie.Need-array-share-prefix-input
 array-share-prefix-input c = search needs
 
@@ -26,14 +32,14 @@ run-requires c κs = search needs
 array-share-prefix-bytes : tie.Need-array-share-prefix-bytes
 array-share-prefix-bytes c = search needs
 
-slice-aggregate-write-all : tie.Need-slice-aggregate-write-all
-slice-aggregate-write-all c = sym (length-take-le _ _ (c .before .before .run .ensures .output .room))
+slice-aggregate-word : tie.Need-slice-aggregate-word
+slice-aggregate-word c = sym (length-take-le _ _ (c .before .before .run .ensures .output .room))
 
-write-all-requires : tie.Need-write-all-requires
-write-all-requires c κs = search needs
+word-requires : tie.Need-word-requires
+word-requires c κs = search needs
 
-returns : tie.Need-returns
-returns c = search needs
+returns-2 : tie.Need-returns-2
+returns-2 c = search needs
 
 pub main-spec : {M : Type 1} → statement M
 main-spec =
@@ -42,10 +48,12 @@ main-spec =
     room-requires
     slice-aggregate-read-full
     read-full-requires
+    input-ended-requires
+    returns
     array-share-prefix-input
     slice-aggregate-run
     run-requires
     array-share-prefix-bytes
-    slice-aggregate-write-all
-    write-all-requires
-    returns)
+    slice-aggregate-word
+    word-requires
+    returns-2)
