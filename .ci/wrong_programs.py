@@ -14,7 +14,7 @@ from collections import Counter
 
 # the crates that callers use: each of their public functions has at least LEAST edits of its own
 PUBLIC = ('survey_file', 'survey', 'lending', 'many_lookups', 'grid', 'esri', 'grid_program', 'esri_program', 'history', 'grid_history',
-          'whole_files', 'file_edits', 'file_lookups', 'file_neighbours', 'file_grids')
+          'whole_files', 'file_edits', 'file_lookups', 'file_neighbours', 'file_grids', 'grid_reading', 'grid_files')
 LEAST = 2
 # the crates that only hand calls on: each of their functions is one call of a public function of PUBLIC, whose wrong programs are its own
 HANDING_ON = ('shepard',)
