@@ -73,22 +73,37 @@ fn common_grid(a: &Side, b: &Side, given: Option<Grid>) -> Result<Grid, Failure>
     }
 }
 
-/// The cells that differ and what they come to, with the exit status.
-fn report(grid: &Grid, before: &[i16], after: &[i16]) -> (String, u8) {
-    let pairs = before.iter().map(|&cell| i64::from(cell)).zip(after.iter().map(|&cell| i64::from(cell)));
-    let differing: Vec<_> = locations(grid).zip(pairs).filter(|(_, (before, after))| before != after).collect();
-    let Some(((x, y), change)) = greatest(differing.iter().map(|&(at, (before, after))| (at, after - before))) else {
-        return (format!("none of {} cells differs\n", before.len()), DONE);
-    };
-    let line =
-        |((x, y), (before, after)): &((u32, u32), (i64, i64))| format!("{x},{y},{},{},{}\n", steps(*before), steps(*after), steps(after - before));
-    let lines: String = differing.iter().map(line).collect();
-    let differ = if differing.len() == 1 { "differs" } else { "differ" };
-    let total = format!("{} of {} cells {differ}, the greatest change is {} steps at ({x}, {y})\n", differing.len(), before.len(), steps(change));
-    (format!("x,y,before,after,change\n{lines}{total}"), REFUSED)
+/// A cell that differs.
+struct Change {
+    x: u32,
+    y: u32,
+    before: i64,
+    after: i64,
 }
 
-/// The first of the changes whose size is greatest.
-fn greatest(changes: impl Iterator<Item = ((u32, u32), i64)>) -> Option<((u32, u32), i64)> {
-    changes.reduce(|most, next| if next.1.abs() > most.1.abs() { next } else { most })
+impl Change {
+    fn amount(&self) -> i64 {
+        self.after - self.before
+    }
+
+    fn line(&self) -> String {
+        format!("{},{},{},{},{}\n", self.x, self.y, steps(self.before), steps(self.after), steps(self.amount()))
+    }
+}
+
+fn changes(grid: &Grid, before: &[i16], after: &[i16]) -> Vec<Change> {
+    let cells = locations(grid).zip(before.iter().zip(after));
+    let all = cells.map(|((x, y), (&before, &after))| Change { x, y, before: before.into(), after: after.into() });
+    all.filter(|change| change.amount() != 0).collect()
+}
+
+/// The cells that differ and what they come to, with the exit status.
+fn report(grid: &Grid, before: &[i16], after: &[i16]) -> (String, u8) {
+    let (changes, all) = (changes(grid, before, after), before.len());
+    let first_greatest = changes.iter().reduce(|most, next| if next.amount().abs() > most.amount().abs() { next } else { most });
+    let Some(most) = first_greatest else { return (format!("none of {all} cells differs\n"), DONE) };
+    let lines: String = changes.iter().map(Change::line).collect();
+    let differ = if changes.len() == 1 { "differs" } else { "differ" };
+    let greatest = format!("the greatest change is {} steps at ({}, {})", steps(most.amount()), most.x, most.y);
+    (format!("x,y,before,after,change\n{lines}{} of {all} cells {differ}, {greatest}\n", changes.len()), REFUSED)
 }

@@ -1,6 +1,5 @@
 //! `shepard export`: a survey's points as a table.
-use crate::failure::Outcome;
-use crate::failure::DONE;
+use crate::failure::{Outcome, DONE};
 use crate::source::Input;
 use crate::store;
 use crate::words::Words;

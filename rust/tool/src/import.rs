@@ -4,7 +4,7 @@ use crate::source::{self, Input};
 use crate::words::Words;
 use crate::{output, store, table, text};
 use shepard::{Refusal, Survey};
-use std::collections::HashMap;
+use std::collections::BTreeMap;
 
 /// Bytes of the longest table.
 const TABLE_MOST: u64 = 16 << 20;
@@ -39,7 +39,7 @@ fn readable(input: &Input) -> Result<&[u8], Failure> {
 #[derive(Default)]
 struct Import {
     survey: Survey,
-    lines: HashMap<(u32, u32), usize>,
+    lines: BTreeMap<(u32, u32), usize>,
     bad: usize,
 }
 

@@ -65,7 +65,7 @@ impl Words {
     fn take_option(&mut self, word: &OsStr, more: &mut impl Iterator<Item = OsString>) -> Result<(), Failure> {
         let (name, value) = parted(word.as_bytes());
         let known = self.command.options.iter().find(|option| option.as_bytes() == name && (value.is_none() || !FLAGS.contains(option)));
-        let Some(&option) = known else { return Err(self.misuse(&format!("no option '{}'", text::shown(name)))) };
+        let Some(&option) = known else { return Err(self.misuse(&format!("no option '{}'", text::name(word)))) };
         if self.has(option) {
             return Err(self.misuse(&format!("'{option}' is given twice")));
         }

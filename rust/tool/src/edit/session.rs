@@ -42,13 +42,13 @@ impl Session {
         if line.is_empty() || line.starts_with(b"#") {
             return Ok(true);
         }
-        match order(line) {
-            Ok(Order::Quit) => return self.leave(),
-            Ok(order) => match self.answer(order) {
-                Ok(answer) => output::print(answer.as_bytes())?,
-                Err(failure) => self.tell(line, &failure),
-            },
-            Err(why) => self.tell(line, &Failure::Refused(why)),
+        let order = order(line);
+        if order == Ok(Order::Quit) {
+            return self.leave();
+        }
+        match order.map_err(Failure::Refused).and_then(|order| self.answer(order)) {
+            Ok(answer) => output::print(answer.as_bytes())?,
+            Err(failure) => self.tell(line, &failure),
         }
         Ok(true)
     }
@@ -75,8 +75,7 @@ impl Session {
             Order::List => Ok(export::lines(&now.survey)),
             Order::ShowGrid => cells(now),
             Order::SetGrid(grid) => self.take(with_grid(now, &grid)?),
-            Order::Undo if self.history.undo() => Ok(DONE_LINE.to_string()),
-            Order::Undo => Err(Failure::Refused("nothing to undo".to_string())),
+            Order::Undo => self.undo(),
             Order::Write(path) => self.write(path),
             Order::Help => Ok(HELP.to_string()),
             Order::Quit => Ok(String::new()),
@@ -96,6 +95,14 @@ impl Session {
         Ok(DONE_LINE.to_string())
     }
 
+    fn undo(&mut self) -> Result<String, Failure> {
+        if self.history.undo() {
+            Ok(DONE_LINE.to_string())
+        } else {
+            Err(Failure::Refused("nothing to undo".to_string()))
+        }
+    }
+
     fn write(&mut self, path: Option<&OsStr>) -> Result<String, Failure> {
         let path = path.unwrap_or(&self.file);
         let now = self.history.now();
@@ -109,33 +116,37 @@ impl Session {
 
     /// Ends the run, unless somebody at a terminal wants to go on: whether to take another turn.
     fn leave(&mut self) -> Result<bool, Failure> {
-        let unwritten = match self.history.unwritten() {
+        let (unwritten, them) = match self.history.unwritten() {
             0 => return Ok(false),
-            1 => "1 change is not written".to_string(),
-            n => format!("{n} changes are not written"),
+            1 => ("1 change is not written".to_string(), "it"),
+            n => (format!("{n} changes are not written"), "them"),
         };
         if self.terminal {
-            return self.ask(&unwritten);
+            return self.ask(&format!("{unwritten}. Write {them}? (yes, no, or anything else to go on) "));
         }
         output::tell(&format!("{}: {unwritten}", text::name(&self.file)));
         self.status = self.status.max(REFUSED);
         Ok(false)
     }
 
-    fn ask(&mut self, unwritten: &str) -> Result<bool, Failure> {
-        let them = if unwritten.starts_with("1 change ") { "it" } else { "them" };
-        output::print(format!("{unwritten}. Write {them}? (yes, no, or anything else to go on) ").as_bytes())?;
+    fn ask(&mut self, question: &str) -> Result<bool, Failure> {
+        output::print(question.as_bytes())?;
         let answer = self.lines.next()?;
         match answer.as_deref().map(<[u8]>::trim_ascii) {
             None | Some(b"no" | b"n") => Ok(false),
-            Some(b"yes" | b"y") => match self.write(None) {
-                Ok(answer) => output::print(answer.as_bytes()).map(|()| false),
-                Err(failure) => {
-                    output::tell(failure.message());
-                    Ok(true)
-                }
-            },
+            Some(b"yes" | b"y") => self.write_and_leave(),
             Some(_) => Ok(true),
+        }
+    }
+
+    /// Ends the run where the file can be written.
+    fn write_and_leave(&mut self) -> Result<bool, Failure> {
+        match self.write(None) {
+            Ok(answer) => output::print(answer.as_bytes()).map(|()| false),
+            Err(failure) => {
+                output::tell(failure.message());
+                Ok(true)
+            }
         }
     }
 }
