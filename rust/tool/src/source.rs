@@ -116,7 +116,7 @@ impl SurveyFile {
     }
 }
 
-/// Whether the library refuses a grid: with no byte lent it gives another refusal where the grid is right.
+/// Whether the library accepts a grid: with no byte lent it refuses one that keeps the rules too, but for another reason.
 pub fn is_grid(survey: &Survey, grid: &Grid) -> bool {
     bytes::grid_file(survey.as_file(), grid, &mut []) != Err(Refusal::GRID_RULE)
 }
