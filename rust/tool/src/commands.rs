@@ -1,0 +1,70 @@
+//! The commands, each with its usage, its help and its function.
+use crate::words::Command;
+use crate::{check, diff, edit, export, grid, import, look, picture};
+
+pub static ALL: [Command; 8] = [
+    Command {
+        name: "import",
+        takes: "TABLE -o FILE [--grid X0,Y0,SX,SY,C,R] [--skip-bad]",
+        operands: &["TABLE"],
+        many: false,
+        options: &["-o", "--grid", "--skip-bad"],
+        help: include_str!("help/import.txt"),
+        run: import::run,
+    },
+    Command {
+        name: "export",
+        takes: "FILE [-o OUT]",
+        operands: &["FILE"],
+        many: false,
+        options: &["-o"],
+        help: include_str!("help/export.txt"),
+        run: export::run,
+    },
+    Command { name: "check", takes: "FILE..", operands: &["FILE"], many: true, options: &[], help: include_str!("help/check.txt"), run: check::run },
+    Command {
+        name: "look",
+        takes: "FILE X Y",
+        operands: &["FILE", "X", "Y"],
+        many: false,
+        options: &[],
+        help: include_str!("help/look.txt"),
+        run: look::run,
+    },
+    Command {
+        name: "edit",
+        takes: "FILE",
+        operands: &["FILE"],
+        many: false,
+        options: &[],
+        help: concat!(include_str!("help/edit.txt"), include_str!("help/edit_lines.txt"), include_str!("help/edit_end.txt")),
+        run: edit::run,
+    },
+    Command {
+        name: "grid",
+        takes: "FILE -o OUT [--grid X0,Y0,SX,SY,C,R] [--as rlg|csv|esri]",
+        operands: &["FILE"],
+        many: false,
+        options: &["-o", "--grid", "--as"],
+        help: include_str!("help/grid.txt"),
+        run: grid::run,
+    },
+    Command {
+        name: "picture",
+        takes: "FILE -o MAP.svg [--grid X0,Y0,SX,SY,C,R] [--of answer|support]",
+        operands: &["FILE"],
+        many: false,
+        options: &["-o", "--grid", "--of"],
+        help: include_str!("help/picture.txt"),
+        run: picture::run,
+    },
+    Command {
+        name: "diff",
+        takes: "A B [--grid X0,Y0,SX,SY,C,R]",
+        operands: &["A", "B"],
+        many: false,
+        options: &["--grid"],
+        help: include_str!("help/diff.txt"),
+        run: diff::run,
+    },
+];
