@@ -13,7 +13,7 @@ LAST = 16
 
 
 class Refusals(NamedTuple):
-    """What a file says of the refusals: the number of each name, its text, and its text where a grid file is refused."""
+    """What a file says of the refusals: each name with its number, its text, and its text of a grid file."""
 
     numbers: dict[str, int]
     texts: dict[str, str]
