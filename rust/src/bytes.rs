@@ -186,8 +186,8 @@ pub fn esri(file: &[u8], grid: &Grid, out: &mut [u8]) -> Result<usize, Refusal> 
 /// The six numbers of a grid file.
 ///
 /// # Errors
-/// 9 for a length that no grid file has, 10 for the last four bytes, 7 for a grid that breaks a rule, 12 for a back distance or a length that does not
-/// go with the six numbers.
+/// 9 for a length that no grid file has, 10 for the last four bytes, 7 for a grid that breaks a rule, 12 for a back distance or a length that does
+/// not go with the six numbers.
 pub fn grid_check(file: &[u8]) -> Result<Grid, Refusal> {
     let mut g = Grid { x0: 0, y0: 0, step_x: 0, step_y: 0, columns: 0, rows: 0 };
     // SAFETY: as in `fresh`.

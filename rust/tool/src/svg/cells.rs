@@ -4,7 +4,7 @@ use super::frame::Frame;
 use super::text::decimal;
 use shepard::Grid;
 
-/// All cells in a system of coordinates of their own, in which a cell is a line one long and one wide from (column, row); those of one colour stand together.
+/// All cells in coordinates of their own, in which a cell is a line one long and one wide from (column, row); those of one colour stand together.
 pub fn drawn(grid: &Grid, cells: &[i64], frame: &Frame, scale: &Scale) -> String {
     let mut by_level = vec![String::new(); LAST + 1];
     for (i, &number) in cells.iter().enumerate() {

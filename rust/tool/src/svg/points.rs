@@ -22,14 +22,14 @@ pub fn drawn(points: &[Point], frame: &Frame) -> (String, String) {
 
 /// The size of the text, and where each value goes.
 fn sized(dots: &[Dot], frame: &Frame) -> (f64, Vec<Option<Place>>) {
-    let beside = SIZES.into_iter().map(|size| (size, room::places(dots, frame, size, false)));
+    let mut beside = SIZES.into_iter().map(|size| (size, room::places(dots, frame, size, false)));
     let smallest = SIZES[SIZES.len() - 1];
-    beside.into_iter().find(|(_, places)| missing(places) == 0).unwrap_or_else(|| (smallest, room::places(dots, frame, smallest, true)))
+    beside.find(|(_, places)| missing(places) == 0).unwrap_or_else(|| (smallest, room::places(dots, frame, smallest, true)))
 }
 
 fn circle(point: &Point, dot: &Dot, size: f64) -> String {
     let Point { x, y, z } = point;
-    let title = format!("{z}, measured\nx {x}: {} cycles\ny {y}: {} h", 16 * u32::from(*x), 4 * u32::from(*y));
+    let title = format!("{z} steps, measured\nx {x}: {} cycles\ny {y}: {} h", 16 * u32::from(*x), 4 * u32::from(*y));
     format!("<circle cx=\"{}\" cy=\"{}\" r=\"{}\"><title>{title}</title></circle>\n", px(dot.x), px(dot.y), px(room::radius(size)))
 }
 

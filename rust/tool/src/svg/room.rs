@@ -32,6 +32,7 @@ const SIDES: [(f64, f64); 8] = [(1.0, 0.0), (-1.0, 0.0), (0.0, -1.0), (0.0, 1.0)
 const RINGS: [f64; 8] = [1.8, 2.4, 3.0, 3.6, 4.2, 5.0, 6.0, 7.0];
 const DIRECTIONS: u32 = 32;
 
+/// How often the order is changed for the values that find no place.
 const ROUNDS: usize = 8;
 
 impl Area {
@@ -127,7 +128,7 @@ pub fn missing(places: &[Option<Place>]) -> usize {
     places.iter().filter(|place| place.is_none()).count()
 }
 
-/// A place for as many values as find one, of a size and with or without lines; those that find none go first in the next of some rounds.
+/// A place for as many values as find one, of a size and with or without lines; those that find none go first in the next round.
 pub fn places(dots: &[Dot], frame: &Frame, size: f64, lines: bool) -> Vec<Option<Place>> {
     let mut order = crowded_first(dots, size);
     let mut last = in_order(&order, dots, frame, size, lines);

@@ -4,7 +4,7 @@
 fn multiples(first: i64, last: i64, most: usize, mut steps: impl Iterator<Item = i64>) -> Vec<i64> {
     let from = |step: i64| (first + step - 1).div_euclid(step) * step;
     let count = |step: i64| if from(step) > last { 0 } else { (last - from(step)) / step + 1 };
-    let step = steps.find(|&step| count(step) <= most as i64).unwrap_or(i64::MAX / 4);
+    let step = steps.find(|&step| count(step) <= most as i64).expect("the last step is longer than every range");
     (0..count(step)).map(|i| from(step) + i * step).collect()
 }
 
