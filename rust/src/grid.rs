@@ -30,6 +30,17 @@ impl Grid {
 }
 
 /// A grid file that was accepted: the six numbers, and the cells row by row, y ascending, x ascending within a row.
+///
+/// ```
+/// use shepard::{Grid, GridFile, Refusal, Survey};
+/// let mut survey = Survey::new();
+/// survey.add(3, 0, -7)?;
+/// let grid = Grid { x0: 0, y0: 0, step_x: 1, step_y: 1, columns: 2, rows: 1 };
+/// let file = survey.grid_file(&grid)?;
+/// assert_eq!(GridFile::read(&file)?, GridFile { grid, cells: vec![-1792, -1792] });
+/// assert_eq!(GridFile::read(&file[1..]), Err(Refusal::FILE_LENGTH));
+/// # Ok::<(), Refusal>(())
+/// ```
 #[derive(Clone, Debug, PartialEq, Eq)]
 pub struct GridFile {
     pub grid: Grid,

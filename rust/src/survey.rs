@@ -11,6 +11,24 @@ const GRID_FILE_MOST: usize = 2 * 64 * 64 + 20;
 const ESRI_MOST: usize = 14 * 64 * 64 + 90;
 
 /// At most 256 points, as the bytes of their file, which has no preamble.
+///
+/// ```
+/// use shepard::{Found, Point, Refusal, Survey};
+/// let mut survey = Survey::new();
+/// for (x, y, z) in [(100, 200, -3), (900, 250, -12), (1800, 2100, -30), (3900, 1200, -64)] {
+///     survey.add(x, y, z)?;
+/// }
+/// survey.change(900, 250, -11)?;
+/// assert_eq!(survey.add(100, 200, 0), Err(Refusal::POINT_THERE));
+///
+/// let (found, neighbours) = survey.lookup_neighbours(1000, 1000)?;
+/// assert_eq!(found, Found { answer: -4065, count: 4, radius: 0 });
+/// assert_eq!((neighbours[0].x, neighbours[0].y, neighbours[0].z), (900, 250, -11));
+///
+/// let again = Survey::from_file(survey.as_file())?;
+/// assert_eq!(again.points()[0], Point { x: 100, y: 200, z: -3 });
+/// # Ok::<(), Refusal>(())
+/// ```
 #[derive(Clone, Debug, PartialEq, Eq)]
 pub struct Survey {
     file: Vec<u8>,
@@ -39,6 +57,9 @@ impl Survey {
     }
 
     /// The survey of a file.
+    ///
+    /// # Errors
+    /// 9 to 15, for what is wrong with the file.
     pub fn from_file(file: &[u8]) -> Result<Survey, Refusal> {
         Ok(Survey { file: written(FILE_MOST, |out| bytes::rewrite(file, out))? })
     }
@@ -59,18 +80,27 @@ impl Survey {
     }
 
     /// A new point.
+    ///
+    /// # Errors
+    /// 1 off the domain, 2 for a value out of range, 3 where a point is already, 5 with 256 points present.
     pub fn add(&mut self, x: u32, y: u32, z: i32) -> Result<(), Refusal> {
         self.file = written(FILE_MOST, |out| bytes::add(&self.file, x, y, z, out))?;
         Ok(())
     }
 
     /// Another value at a location.
+    ///
+    /// # Errors
+    /// 1 off the domain, 2 for a value out of range, 4 where no point is.
     pub fn change(&mut self, x: u32, y: u32, z: i32) -> Result<(), Refusal> {
         self.file = written(FILE_MOST, |out| bytes::change(&self.file, x, y, z, out))?;
         Ok(())
     }
 
     /// A point taken out.
+    ///
+    /// # Errors
+    /// 1 off the domain, 4 where no point is.
     pub fn drop_point(&mut self, x: u32, y: u32) -> Result<(), Refusal> {
         self.file = written(FILE_MOST, |out| bytes::drop(&self.file, x, y, out))?;
         Ok(())
@@ -82,11 +112,17 @@ impl Survey {
     }
 
     /// The interpolated value at a location.
+    ///
+    /// # Errors
+    /// 1 off the domain, 6 with no point present.
     pub fn lookup(&self, x: u32, y: u32) -> Result<Found, Refusal> {
         bytes::lookup(&self.file, x, y)
     }
 
     /// The same, with the chosen points in order of choice.
+    ///
+    /// # Errors
+    /// 1 off the domain, 6 with no point present.
     pub fn lookup_neighbours(&self, x: u32, y: u32) -> Result<(Found, Vec<Neighbour>), Refusal> {
         let mut records = [0; 100];
         let found = bytes::lookup_neighbours(&self.file, x, y, &mut records)?;
@@ -95,6 +131,9 @@ impl Survey {
     }
 
     /// Lookups at many locations, with one reading of the file.
+    ///
+    /// # Errors
+    /// 1 or 6, as the first lookup that is refused.
     pub fn lookup_many(&self, locations: &[(u16, u16)]) -> Result<Vec<Found>, Refusal> {
         let from: Vec<u8> = locations.iter().flat_map(|&(x, y)| [x.to_be_bytes(), y.to_be_bytes()].concat()).collect();
         let mut out = vec![0; 8 * locations.len()];
@@ -103,16 +142,25 @@ impl Survey {
     }
 
     /// The grid file.
+    ///
+    /// # Errors
+    /// 7 for a grid that breaks a rule, 6 with no point present.
     pub fn grid_file(&self, grid: &Grid) -> Result<Vec<u8>, Refusal> {
         written(GRID_FILE_MOST, |out| bytes::grid_file(&self.file, grid, out))
     }
 
     /// The grid's cells, row by row, y ascending, x ascending within a row.
+    ///
+    /// # Errors
+    /// 7 for a grid that breaks a rule, 6 with no point present.
     pub fn grid(&self, grid: &Grid) -> Result<Vec<i16>, Refusal> {
         Ok(GridFile::read(&self.grid_file(grid)?)?.cells)
     }
 
     /// The Esri ASCII grid: six lines before the cells, then rows from the highest y down, each cell in register steps with eight decimals.
+    ///
+    /// # Errors
+    /// 7 for a grid that breaks a rule, 16 where its two steps differ, 6 with no point present.
     pub fn esri(&self, grid: &Grid) -> Result<String, Refusal> {
         let text = written(ESRI_MOST, |out| bytes::esri(&self.file, grid, out))?;
         Ok(String::from_utf8(text).expect("the text is ASCII"))
