@@ -27,7 +27,7 @@ for program in shepard_grid shepard_esri shepard_replay; do
     rt check "$program"
 done
 rt staticlib shepard
-(cd rust && SHEPARD_LIB_DIR=$PWD/../target/staticlib cargo build --release --offline --locked --package shepard-tool --target-dir target)
+(cd rust && SHEPARD_LIB_DIR=$PWD/../target/staticlib cargo build --release --offline --locked --target-dir ../target/rust)
 gcc -shared -o target/libshepard.so -Wl,--whole-archive target/staticlib/libshepard.a -Wl,--no-whole-archive
 
 version=$(sed -n 's/^version = "\(.*\)"$/\1/p' rust/Cargo.toml)
@@ -49,7 +49,7 @@ put() {
     echo "installed $to/$3"
 }
 
-put 755 rust/target/release/shepard bin/shepard
+put 755 target/rust/release/shepard bin/shepard
 for program in shepard_grid shepard_esri shepard_replay; do
     put 755 "target/bin/$program" "bin/$program"
 done

@@ -1,8 +1,9 @@
 //! The colour bar: which colour is which number.
 use super::colours::{Scale, LAST};
 use super::frame::Frame;
-use super::text::{decimal, px};
+use super::text::px;
 use super::{ticks, Of};
+use crate::steps::steps;
 
 const WIDTH: f64 = 16.0;
 
@@ -44,6 +45,6 @@ fn marks(height: f64, scale: &Scale) -> Vec<(f64, i64)> {
 }
 
 fn mark(x: f64, y: f64, number: i64) -> String {
-    let (x, text) = (px(x), format!("<text x=\"{}\" y=\"{}\">{}</text>\n", px(x + 8.0), px(y + 4.0), decimal(number)));
+    let (x, text) = (px(x), format!("<text x=\"{}\" y=\"{}\">{}</text>\n", px(x + 8.0), px(y + 4.0), steps(number)));
     format!("<path d=\"M{x} {}h5\" stroke=\"#222\"/>\n{text}", px(y))
 }

@@ -1,7 +1,7 @@
 //! The cells, each with its location and its number as a tooltip.
 use super::colours::{Scale, LAST};
 use super::frame::Frame;
-use super::text::decimal;
+use crate::steps::steps;
 use shepard::Grid;
 
 /// All cells in coordinates of their own, in which a cell is a line one long and one wide from (column, row); those of one colour stand together.
@@ -21,6 +21,6 @@ pub fn drawn(grid: &Grid, cells: &[i64], frame: &Frame, scale: &Scale) -> String
 fn cell(grid: &Grid, column: usize, row: usize, number: i64) -> String {
     let x = usize::from(grid.x0) + column * usize::from(grid.step_x);
     let y = usize::from(grid.y0) + row * usize::from(grid.step_y);
-    let title = format!("{}\nx {x}: {} cycles\ny {y}: {} h", decimal(number), 16 * x, 4 * y);
+    let title = format!("{}\nx {x}: {} cycles\ny {y}: {} h", steps(number), 16 * x, 4 * y);
     format!("<path d=\"M{column} {row}h1\"><title>{title}</title></path>")
 }

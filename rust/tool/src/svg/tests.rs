@@ -1,6 +1,6 @@
 use super::colours::{Scale, LAST};
 use super::frame::Frame;
-use super::text::{decimal, escape, headline};
+use super::text::{escape, headline};
 use super::{points, room, svg, ticks, Map, Of};
 use shepard::{Grid, Point};
 
@@ -29,12 +29,6 @@ fn assert_well_formed(text: &str) {
 
 fn points(count: u16) -> Vec<Point> {
     (0..count).map(|i| Point { x: 16 * i, y: (37 * i) % 4096, z: -(i as i8 & 63) }).collect()
-}
-
-#[test]
-fn decimals_are_exact() {
-    let pairs = [(-4065, "-15.87890625"), (4608, "18"), (128, "0.5"), (-1, "-0.00390625"), (0, "0"), (25600, "100"), (-32768, "-128")];
-    assert_eq!(pairs.map(|(n, _)| decimal(n)), pairs.map(|(_, text)| text.to_string()));
 }
 
 #[test]

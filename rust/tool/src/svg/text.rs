@@ -1,13 +1,5 @@
 //! Numbers and words as the picture's text.
 
-/// A number of 256ths as an exact decimal without trailing zeros.
-pub fn decimal(n: i64) -> String {
-    let sign = if n < 0 { "-" } else { "" };
-    let (whole, rest) = (n.unsigned_abs() / 256, n.unsigned_abs() % 256);
-    let text = format!("{sign}{whole}.{:08}", rest * 390_625);
-    text.trim_end_matches('0').trim_end_matches('.').to_string()
-}
-
 /// A length or a place in the picture, to a tenth of a pixel.
 pub fn px(n: f64) -> String {
     let text = format!("{n:.1}");
