@@ -58,4 +58,4 @@ pub file-claimed : {cs : List Call} {s : Survey} → Runs cs s → (κs : Lfts 1
     → (n : ℕ) → a ≡ Length n → TwoBytes (gridOf g) → States (take n (now left)) (gridOf g) (cells (settled (present cs)) (gridOf g))
 file-claimed {cs} h κs g out left a p =
     let q = rw (leaves h) at p in
-    written-back (gridOf g) (present cs) (history-invariant cs) (now out) a (now left) (q .0) (q .1 .0) (q .1 .1 .0)
+    written-back (gridOf g) (present cs) (history-invariant cs) (now out) a (now left) (q .0) (q .1 .0) (q .1 .1)
