@@ -43,5 +43,5 @@ module _ (f : List ℕ) where
             marked,
             rules,
             or-true (not (eqb (cellsBack f) (2 * cellCount (gridOfFile f)))) (not (eqb (length f) (gridFileLength (gridOfFile f))))
-            (rw (ne-eqb (length f) (gridFileLength (gridOfFile f)) h)),
+                (rw (ne-eqb (length f) (gridFileLength (gridOfFile f)) h)),
           )

@@ -29,6 +29,7 @@ sub-end : tie.Need-sub-end
 sub-end c =
     let h = sym (c .before .has-length .ensures) ∙ not-false _ (c .if1 .left) in
     length-ends _ h .0
+
 add-has-magic : tie.Need-add-has-magic
 add-has-magic c = search needs
 
