@@ -23,9 +23,7 @@ for needed in rt cargo gcc; do
 done
 [ "$missing" -eq 0 ] || exit 1
 
-for program in shepard_grid shepard_esri shepard_replay; do
-    rt check "$program"
-done
+rt check shepard_grid shepard_esri shepard_replay
 rt staticlib shepard
 (cd rust && SHEPARD_LIB_DIR=$PWD/../target/staticlib cargo build --release --offline --locked --target-dir ../target/rust)
 gcc -shared -o target/libshepard.so -Wl,--whole-archive target/staticlib/libshepard.a -Wl,--no-whole-archive
