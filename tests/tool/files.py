@@ -7,6 +7,7 @@ from struct import pack, unpack
 from typing import NamedTuple
 
 import tool  # noqa: F401  It puts tests/ on the path.
+from texts import steps
 
 import exact_files
 from exact import Point, Refused
@@ -80,3 +81,14 @@ def read_grid_file(data: bytes) -> GridFile:
 def locations(numbers: Sequence[int]) -> list[tuple[int, int]]:
     """Where a grid's cells stand, in the file's order."""
     return exact_files.grid_locations(exact_files.Grid(*numbers))
+
+
+def csv_of(data: bytes) -> str:
+    """A grid file's cells as lines of y and cells, below a line of each column's x."""
+    grid = read_grid_file(data)
+    x0, y0, step_x, step_y, columns, rows = grid.numbers
+    lines = [["y\\x", *(str(x0 + step_x * column) for column in range(columns))]]
+    for row in range(rows):
+        cells = grid.cells[row * columns : (row + 1) * columns]
+        lines.append([str(y0 + step_y * row), *map(steps, cells)])
+    return "".join(",".join(line) + "\n" for line in lines)
