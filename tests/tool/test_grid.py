@@ -12,8 +12,10 @@ from texts import GRID_RULES, TOO_FEW_BYTES, grid_of, refused, six
 from tool import SAMPLE, SEED, ToolTest, esri_text, grid_file
 
 import damage
+import exact_files
 import grids
 import surveys
+from exact import Refused
 
 NARROW_GRIDS = ((0, 0, 65, 65, 64, 1), (2000, 0, 65, 65, 1, 64), (4095, 4095, 65535, 65535, 1, 1), (7, 9, 1, 1, 1, 1))
 
@@ -183,20 +185,18 @@ class RefusedGrids(ToolTest):
 
     def test_damaged_files(self) -> None:
         """The file's own refusal comes before its grid's."""
-        rng = Random(SEED)
+        rng, numbers = Random(SEED), (0, 0, 1, 1, 1, 1)
         for _ in range(60):
-            data = damage.damage(rng, bytes(12), damage.few_points(rng))
-            told = grid_file((0, 0, 1, 1, 1, 1), data)
-            words = "grid - -o - --grid 0,0,1,1,1,1"
-            if len(data) > 65_524 or data[-4:] == b"RLG1":
-                continue
-            ran = self.run_tool(words, data)
-            if told.startswith(b"refused "):
-                number = int(told.split()[1])
+            data = damage.damage(rng, damage.random_preamble(rng), damage.few_points(rng))
+            ran = self.run_tool(f"grid - -o - --grid {six(numbers)}", data)
+            try:
+                points = exact_files.read_survey_file(data)
+            except Refused as refusal:
                 self.assertEqual((ran.status, ran.output), (1, b""))
-                self.assertIn(f": refused {number}: ".encode(), ran.errors)
+                self.assertIn(f": refused {refusal.number}: ".encode(), ran.errors)
             else:
-                self.assertEqual(ran, (0, told, b""))
+                wanted = (0, grid_file(numbers, files.survey(points))) if points else (1, b"")
+                self.assertEqual((ran.status, ran.output), wanted)
 
     def test_damaged_grid_files(self) -> None:
         sound = files.made_grid_file((0, 0, 1, 1, 2, 3), [1, 2, 3, 4, 5, 6])
