@@ -8,7 +8,7 @@ from struct import unpack
 
 import files
 import lookups
-from texts import GRID_RULES, refused, survey_of
+from texts import GRID_RULES, refused, shown, survey_of
 from tool import grid_file
 
 import exact_files
@@ -190,7 +190,7 @@ class Editor:
             try:
                 self.perform(line)
             except NotDone as reason:
-                self.errors.append(f"line {number}: {line.strip()}: {reason.why}\n")
+                self.errors.append(f"line {number}: {shown(line.encode())}: {reason.why}\n")
                 self.status = max(self.status, reason.status)
         left = self.unwritten()
         if left:

@@ -44,6 +44,9 @@ class Script:
         """One that was met before, or any."""
         if self.met and self.rng.randrange(2):
             return self.rng.choice(self.met)
+        return self.anywhere()
+
+    def anywhere(self) -> tuple[int, int]:
         return self.rng.randrange(self.side), self.rng.randrange(self.side)
 
     def line(self, name: str, *numbers: int) -> str:
@@ -51,7 +54,7 @@ class Script:
         return f"{name} " + space.join(map(str, numbers))
 
     def add(self) -> str:
-        x, y = self.location()
+        x, y = self.location() if self.rng.randrange(3) == 0 else self.anywhere()
         self.met.append((x, y))
         return self.line("add", x, y, self.rng.randint(-130, 129))
 

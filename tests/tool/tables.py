@@ -6,13 +6,12 @@ from collections.abc import Iterable
 from random import Random
 
 import files
-from texts import REFUSALS, counted
+from texts import REFUSALS, counted, shown
 
 import exact_survey
 from exact import Point, Refused
 
 NEEDED = "where x, y and z are needed"
-TOLD = 80
 HUGE = "123456789012345678901234567890"
 
 # A line, and why it is bad.
@@ -98,24 +97,6 @@ BAD_LINES: tuple[tuple[bytes, str], ...] = (
     (b"1,2," + HUGE.encode(), REFUSALS[2]),
     (b"1,2,-" + HUGE.encode(), REFUSALS[2]),
 )
-
-
-def shown(line: bytes) -> str:
-    """A line as a message tells it."""
-    text = line.strip(b" ").decode("utf-8", "surrogateescape")
-    if len(text) > TOLD:
-        text = text[: TOLD - 3] + "..."
-    return "".join(map(shown_character, text))
-
-
-def shown_character(character: str) -> str:
-    """Itself, or its byte where it is a control character or none of UTF-8."""
-    code = ord(character)
-    if 0xDC80 <= code <= 0xDCFF:
-        code -= 0xDC00
-    elif 0x20 <= code != 0x7F:
-        return character
-    return f"\\x{code:02x}"
 
 
 class Table:

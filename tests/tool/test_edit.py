@@ -175,7 +175,8 @@ class NotDone(EditTest):
         points = [(x, y, 0) for x in range(16) for y in range(16)]
         self.put("f.rls", files.survey(points))
         errors = f"line 1: add 16 0 0: {refused(5)}\nline 2: add 0 0 0: {refused(3)}\n"
-        self.assert_edits("add 16 0 0\nadd 0 0 0\ndrop 0 0\nadd 16 0 0\nwrite\n", 1, "ok\nok\nf.rls: a survey of 256 points\n", errors, "f.rls")
+        script = "add 16 0 0\nadd 0 0 0\ndrop 0 0\nadd 16 0 0\nwrite\n"
+        self.assert_edits(script, 1, "ok\nok\nf.rls: a survey of 256 points\n", errors, "f.rls")
 
     def test_not_understood(self) -> None:
         self.assert_why("x", "no command 'x'")
@@ -274,7 +275,8 @@ class Undo(EditTest):
         self.assert_like_the_model("f.rls", ["add 1 1 1", "add 1 1 1", "x", "drop 2 2", "list", "undo", "list", "undo"])
 
     def test_past_a_write(self) -> None:
-        self.assert_like_the_model("f.rls", ["add 1 1 1", "add 2 2 2", "write", "undo", "list", "undo", "list", "write"])
+        lines = ["add 1 1 1", "add 2 2 2", "write", "undo", "list", "undo", "list", "write"]
+        self.assert_like_the_model("f.rls", lines)
 
     def test_many(self) -> None:
         lines = [f"add {x} 0 0" for x in range(200)] + ["undo"] * 150 + ["list", "write"]

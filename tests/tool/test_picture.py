@@ -143,13 +143,11 @@ class Maps(PictureTest):
             self.assertNotIn("nan", self.bytes_of("m.svg").decode().lower())
 
     def test_full_and_single_surveys(self) -> None:
-        rng = Random(SEED)
+        rng, numbers = Random(SEED), (0, 0, 585, 585, 8, 8)
         for kind in (surveys.crowded, surveys.single, surveys.column, surveys.corners):
-            points, _ = surveys.make(rng, kind)
-            data = files.survey(points, (0, 0, 585, 585, 8, 8))
-            self.assert_cells(
-                self.picture(data, (0, 0, 585, 585, 8, 8)), files.read_grid_file(grid_file((0, 0, 585, 585, 8, 8), data)).cells
-            )
+            data = files.survey(surveys.make(rng, kind)[0], numbers)
+            cells = files.read_grid_file(grid_file(numbers, data)).cells
+            self.assert_cells(self.picture(data, numbers), cells)
 
     def test_numbers_of_shapes(self) -> None:
         """Every size and place is a plain number, and no size is negative."""

@@ -32,6 +32,7 @@ GRID_FILE_REFUSALS = {
     10: "its last four bytes are not RLG1",
     12: "its back distance or its length does not go with its six numbers",
 }
+TOLD = 80
 NEITHER_MAGIC = "its last four bytes are neither RLS1 nor RLG1"
 
 
@@ -66,3 +67,21 @@ def grid_of(numbers: Sequence[int], what: str = "a grid") -> str:
 def six(numbers: Sequence[int]) -> str:
     """A grid's six numbers as the tool takes and shows them."""
     return ",".join(map(str, numbers))
+
+
+def shown(line: bytes) -> str:
+    """A line as a message tells it."""
+    text = line.strip(b" ").decode("utf-8", "surrogateescape")
+    if len(text) > TOLD:
+        text = text[: TOLD - 3] + "..."
+    return "".join(map(shown_character, text))
+
+
+def shown_character(character: str) -> str:
+    """Itself, or its byte where it is a control character or none of UTF-8."""
+    code = ord(character)
+    if 0xDC80 <= code <= 0xDCFF:
+        code -= 0xDC00
+    elif 0x20 <= code != 0x7F:
+        return character
+    return f"\\x{code:02x}"
