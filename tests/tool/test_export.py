@@ -86,7 +86,8 @@ class ThereAndBack(ToolTest):
             self.assert_ran("import - -o -", 0, files.survey(points), data=text)
 
     def test_sample(self) -> None:
-        self.assert_back(SAMPLE.read_bytes(), (0, 0, 65, 65, 64, 64))
+        numbers = (0, 0, 65, 65, 64, 64)
+        self.assert_back(files.survey(exact_files.read_survey_file(SAMPLE.read_bytes()), numbers), numbers)
 
     def test_a_changed_byte_is_noticed(self) -> None:
         data = bytearray(files.survey(files.FOUR, files.FOUR_GRID))

@@ -188,6 +188,8 @@ class RefusedGrids(ToolTest):
         rng, numbers = Random(SEED), (0, 0, 1, 1, 1, 1)
         for _ in range(60):
             data = damage.damage(rng, damage.random_preamble(rng), damage.few_points(rng))
+            if data.endswith(b"RLG1"):
+                continue
             ran = self.run_tool(f"grid - -o - --grid {six(numbers)}", data)
             try:
                 points = exact_files.read_survey_file(data)

@@ -20,7 +20,7 @@ import surveys
 SVG = "{http://www.w3.org/2000/svg}"
 SHAPES = {SVG + name for name in ("rect", "path", "polygon", "circle", "ellipse", "use")}
 NUMBER = re.compile(r"-?[0-9]+(?:\.[0-9]+)?")
-HOSTILE = ("a&b<c>.rls", "'\"&amp;.rls", "]]>.rls", "a\x01b\x1f.rls", "--><script>.rls", "é€𝄞.rls")
+HOSTILE = ("a&b<c>.rls", "'\"&amp;.rls", "]]>.rls", "a\x01b\x1f.rls", "x--><script>.rls", "é€𝄞.rls")
 
 Element = ElementTree.Element
 
