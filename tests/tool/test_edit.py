@@ -214,7 +214,8 @@ class NotDone(EditTest):
     def test_writes_that_fail(self) -> None:
         self.assert_why("write no/f.rls", "no/f.rls: No such file or directory (os error 2)", 2)
         self.assert_why("write .", ".: Is a directory (os error 21)", 2)
-        self.assert_why("write /dev/full", "/dev/full: No space left on device (os error 28)", 2)
+        full = self.device("full")
+        self.assert_why(f"write {full}", f"{full}: No space left on device (os error 28)", 2)
 
     def test_control_characters_are_shown(self) -> None:
         ran = self.run_tool("edit new.rls", b"\x1b[2J\xff\n")

@@ -4,7 +4,9 @@ from __future__ import annotations
 
 import os
 import resource
+import signal
 import stat
+import subprocess
 import threading
 import unittest
 from collections.abc import Callable
@@ -13,7 +15,7 @@ from typing import Any
 
 import files
 from texts import NEITHER_MAGIC
-from tool import Ran, ToolTest, grid_file
+from tool import SECONDS, TOOL, Ran, ToolTest, grid_file
 
 NO_SPACE = "No space left on device (os error 28)"
 NOT_THERE = "No such file or directory (os error 2)"
@@ -211,9 +213,11 @@ class Places(FailureTest):
         self.assertEqual(os.listdir(self.folder / "d"), [])
 
     def test_a_full_device(self) -> None:
+        full = self.device("full")
+        self.given.append(full)
         for words in WRITERS:
-            self.assert_failed(f"{words} /dev/full", f"/dev/full: {NO_SPACE}\n")
-        self.assertTrue(stat.S_ISCHR(os.stat("/dev/full").st_mode))
+            self.assert_failed(f"{words} {full}", f"{full}: {NO_SPACE}\n")
+            self.assertTrue(stat.S_ISCHR((self.folder / full).lstat().st_mode))
 
     def test_below_a_file(self) -> None:
         for words in WRITERS:
@@ -231,8 +235,13 @@ class Places(FailureTest):
 
 
 def at_most(size: int) -> Callable[[], None]:
-    """No file may grow beyond a size: a write that would go beyond it fails halfway."""
-    return lambda: resource.setrlimit(resource.RLIMIT_FSIZE, (size, size))
+    """No file may grow beyond a size: a write that would go beyond it fails halfway, or ends the run by a signal."""
+
+    def limit() -> None:
+        resource.setrlimit(resource.RLIMIT_CORE, (0, 0))
+        resource.setrlimit(resource.RLIMIT_FSIZE, (size, size))
+
+    return limit
 
 
 class Halfway(FailureTest):
@@ -262,6 +271,18 @@ class Halfway(FailureTest):
         self.assertEqual(ran, (2, b"ok\n", errors.encode()))
         self.assertEqual(self.bytes_of("f.rls"), SURVEY)
         self.assertEqual(self.names(), self.given)
+
+
+    def test_ended_by_a_signal(self) -> None:
+        """The old file is as it was, and beside it is the temporary, by its name."""
+        self.put("o", b"old")
+        command = [TOOL, "export", "f.rls", "-o", "o"]
+        with subprocess.Popen(command, cwd=self.folder, preexec_fn=at_most(10)) as running:
+            running.wait(SECONDS)
+        self.assertEqual(running.returncode, -signal.SIGXFSZ)
+        self.assertEqual(self.bytes_of("o"), b"old")
+        self.assertEqual(self.names(), sorted([*self.given, "o", f".o.{running.pid}.tmp"]))
+        (self.folder / f".o.{running.pid}.tmp").unlink()
 
 
 class Protected(FailureTest):
@@ -389,10 +410,11 @@ class Devices(FailureTest):
     """What is no regular file is written to, and stays what it is."""
 
     def test_null(self) -> None:
+        null = self.device("null")
         for words in WRITERS:
-            ran = self.run_tool(f"{words} /dev/null")
+            ran = self.run_tool(f"{words} {null}")
             self.assertEqual((ran.status, ran.errors), (0, b""), words)
-        self.assertTrue(stat.S_ISCHR(os.stat("/dev/null").st_mode))
+            self.assertTrue(stat.S_ISCHR((self.folder / null).lstat().st_mode))
 
     def test_a_pipe(self) -> None:
         pipe = self.folder / "pipe"
@@ -432,9 +454,11 @@ class Devices(FailureTest):
         writer.join(5)
 
     def test_output_named_as_a_descriptor(self) -> None:
-        """/dev/stdout is a pipe here: it is written to."""
-        ran = self.run_tool("export f.rls -o /dev/stdout")
+        """A link as /dev/stdout is one, to a pipe without a name: it is written to."""
+        os.symlink("/proc/self/fd/1", self.folder / "out")
+        ran = self.run_tool("export f.rls -o out")
         self.assertEqual(ran, (0, files.exported(files.FOUR).encode(), b""))
+        self.assertEqual(os.readlink(self.folder / "out"), "/proc/self/fd/1")
 
 
 def put_mine(path: str) -> None:

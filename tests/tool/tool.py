@@ -3,6 +3,7 @@
 from __future__ import annotations
 
 import os
+import stat
 import subprocess
 import sys
 import tempfile
@@ -18,6 +19,7 @@ sys.path.append(str(REPOSITORY / "tests"))
 SECONDS = 20
 SAMPLE = REPOSITORY / "sample" / "worn_drive.rls"
 SEED = 1968
+DEVICES = {"null": os.makedev(1, 3), "full": os.makedev(1, 7)}
 
 
 def program(variable: str, usual: str) -> str:
@@ -94,6 +96,19 @@ class ToolTest(unittest.TestCase):
 
     def bytes_of(self, name: str) -> bytes:
         return (self.folder / name).read_bytes()
+
+    def device(self, name: str) -> str:
+        """A device in the folder: were it one of /dev, a tool that replaces what it should write to would harm all."""
+        made = self.folder / name
+        try:
+            os.mknod(made, stat.S_IFCHR | 0o600, DEVICES[name])
+            made.open("wb").close()
+            return name
+        except PermissionError:
+            made.unlink(missing_ok=True)
+        if os.access("/dev", os.W_OK):
+            self.skipTest("no device can be made here, and those of /dev could be replaced")
+        return f"/dev/{name}"
 
     def names(self) -> list[str]:
         """What stands in the folder."""
