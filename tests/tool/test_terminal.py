@@ -7,14 +7,17 @@ import os
 import pty
 import subprocess
 import termios
+import threading
 import unittest
 
 import files
 from texts import refused
-from tool import SECONDS, TOOL, ToolTest
+from tool import TOOL, ToolTest
 
 QUESTION = "{} changes are not written. Write them? (yes, no, or anything else to go on) "
 END_OF_INPUT = "\x04"
+# A run that waits for more than is typed is ended after these.
+SECONDS = 5
 
 
 def plain_terminal() -> tuple[int, int]:
@@ -49,10 +52,13 @@ class Terminal(ToolTest):
         command = [TOOL, "edit", name]
         with subprocess.Popen(command, cwd=self.folder, stdin=theirs, stdout=theirs, stderr=theirs) as running:
             os.close(theirs)
+            late = threading.Timer(SECONDS, running.kill)
+            late.start()
             os.write(ours, typed.encode())
             shown = read_to_the_end(ours)
+            late.cancel()
             os.close(ours)
-            return running.wait(SECONDS), shown.decode()
+            return running.wait(), shown.decode()
 
     def test_prompt_and_messages(self) -> None:
         shown = "new.rls: a new survey\n> ok\n> " + refused(3) + "\n> no command 'x'\n> > 1,2,3\n> ok\n> "
