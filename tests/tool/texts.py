@@ -70,11 +70,9 @@ def six(numbers: Sequence[int]) -> str:
 
 
 def shown(line: bytes) -> str:
-    """A line as a message tells it."""
-    text = line.strip(b" ").decode("utf-8", "surrogateescape")
-    if len(text) > TOLD:
-        text = text[: TOLD - 3] + "..."
-    return "".join(map(shown_character, text))
+    """A line as a message tells it: first what cannot be shown is spelled out, then it is cut."""
+    text = "".join(map(shown_character, line.strip(b" ").decode("utf-8", "surrogateescape")))
+    return text if len(text) <= TOLD else text[: TOLD - 3] + "..."
 
 
 def shown_character(character: str) -> str:

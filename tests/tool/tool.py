@@ -27,7 +27,7 @@ def program(variable: str, usual: str) -> str:
     return str(Path(os.environ.get(variable, REPOSITORY / usual)).resolve())
 
 
-TOOL = program("SHEPARD_TOOL", "rust/target/release/shepard")
+TOOL = program("SHEPARD_TOOL", "target/rust/release/shepard")
 GRID = program("SHEPARD_GRID", "target/bin/shepard_grid")
 ESRI = program("SHEPARD_ESRI", "target/bin/shepard_esri")
 REPLAY = program("SHEPARD_REPLAY", "target/bin/shepard_replay")
