@@ -73,8 +73,6 @@ class Editor:
         numbers = unpack(">6H", before[:12]) if len(before) >= 12 else ()
         return numbers if numbers and files.is_proper(numbers) else None
 
-    # Changes.
-
     def change_to(self, values: dict[tuple[int, int], int], before: bytes) -> None:
         self.changes += 1
         self.history.append((self.changes, self.state))
@@ -128,8 +126,6 @@ class Editor:
         _, self.state = self.history.pop()
         self.output.append("ok\n")
 
-    # What only asks, and writing.
-
     def cells(self) -> str:
         if len(self.state[1]) < 12:
             raise NotDone(FEWER_THAN_TWELVE)
@@ -158,8 +154,6 @@ class Editor:
         if path == self.name:
             self.written = self.file()
             self.written_history = [change for change, _ in self.history]
-
-    # A script.
 
     def perform(self, line: str) -> None:
         name, *words = line.replace(",", " ").split()

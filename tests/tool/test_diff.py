@@ -181,6 +181,8 @@ class RefusedDiffs(ToolTest):
         self.put("bare", files.survey(files.FOUR))
         self.put("rule", files.survey(files.FOUR, (0, 0, 0, 1, 1, 1)))
         self.assert_ran("diff bare bare", 1, errors=f"bare: refused 7: {TOO_FEW_BYTES}\n")
+        self.assert_ran("diff good bare", 1, errors=f"bare: refused 7: {TOO_FEW_BYTES}\n")
+        self.assert_ran("diff bare good", 1, errors=f"bare: refused 7: {TOO_FEW_BYTES}\n")
         self.assert_ran("diff rule rule", 1, errors=f"rule: refused 7: {REFUSALS[7]}\n")
         ran = self.run_tool("diff bare bare --grid 0,0,0,1,1,1")
         self.assertEqual((ran.status, ran.output, ran.errors), (1, b"", f"bare: refused 7: {REFUSALS[7]}\n".encode()))

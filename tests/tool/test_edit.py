@@ -63,6 +63,9 @@ class Commands(EditTest):
     def test_last_line_without_its_end(self) -> None:
         self.assert_edits("add 2 2 2\nwrite", 0, "ok\nnew.rls: a survey of 1 point\n", "")
 
+    def test_lines_that_end_as_on_other_systems(self) -> None:
+        self.assert_edits("add 2 2 2\r\nlist\r\n\r\nwrite\r\n", 0, "ok\n2,2,2\nnew.rls: a survey of 1 point\n", "")
+
     def test_change_drop_and_clear(self) -> None:
         self.put("f.rls", files.survey(files.FOUR))
         script = "change 100 200 5\ndrop 900 250\nlist\nclear\nlist\nundo\nwrite\n"

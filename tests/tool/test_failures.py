@@ -21,6 +21,7 @@ NO_SPACE = "No space left on device (os error 28)"
 NOT_THERE = "No such file or directory (os error 2)"
 FOLDER = "Is a directory (os error 21)"
 SURVEY = files.survey(files.FOUR, files.FOUR_GRID)
+NOBODY = 65_534
 # Each command that writes, without the name of its output.
 WRITERS = (
     "import t.csv -o",
@@ -170,6 +171,16 @@ class StandardOutput(FailureTest):
             self.assertEqual(ran.status, 2, script)
             self.assertIn(f"standard output: {NO_SPACE}\n".encode(), ran.errors)
             self.assertEqual(self.bytes_of("f.rls"), SURVEY)
+
+    def test_closed_pipe_for_edit(self) -> None:
+        """The run ends where it cannot answer: what comes after is not done."""
+        reading, writing = os.pipe()
+        os.close(reading)
+        ran = self.run_tool("edit f.rls", b"drop 100 200\nlist\nwrite\n", stdout=writing)
+        os.close(writing)
+        self.assertEqual(ran.status, 2)
+        self.assertIn(b"standard output: Broken pipe (os error 32)\n", ran.errors)
+        self.assertEqual(self.bytes_of("f.rls"), SURVEY)
 
     def test_closed(self) -> None:
         """What goes to a file does not get what is said of it."""
@@ -516,6 +527,40 @@ class Temporaries(FailureTest):
         os.link(self.folder / "o", self.folder / "p")
         self.assertEqual(self.run_tool("export f.rls -o o").status, 0)
         self.assertEqual(self.bytes_of("p"), b"old")
+
+
+class Strangers(FailureTest):
+    """A run by somebody who may not write in the folder: as root by another user, else by the same one."""
+
+    def setUp(self) -> None:
+        super().setUp()
+        self.put("o", b"old")
+        self.put("secret", SURVEY)
+        (self.folder / "o").chmod(0o666)
+        (self.folder / "secret").chmod(0o000)
+        self.folder.chmod(0o755 if os.geteuid() == 0 else 0o555)
+        self.addCleanup(self.folder.chmod, 0o755)
+
+    def assert_denied(self, words: str, name: str) -> None:
+        other = {"user": NOBODY, "group": NOBODY, "extra_groups": []} if os.geteuid() == 0 else {}
+        before = self.names()
+        try:
+            ran = self.run_tool(words, **other)
+        except PermissionError:
+            self.skipTest("others may not run the tool")
+        self.assertEqual(ran, (2, b"", f"{name}: Permission denied (os error 13)\n".encode()), words)
+        self.assertEqual(self.names(), before)
+
+    def test_reading(self) -> None:
+        for words in READERS:
+            self.assert_denied(words.format("secret"), "secret")
+
+    def test_writing(self) -> None:
+        """A file that could be changed in place is not, since it cannot be replaced."""
+        for words in WRITERS:
+            self.assert_denied(f"{words} new", "new")
+            self.assert_denied(f"{words} o", "o")
+            self.assertEqual(self.bytes_of("o"), b"old")
 
 
 class OneAfterTheOther(FailureTest):

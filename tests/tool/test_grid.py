@@ -110,10 +110,11 @@ class Forms(ToolTest):
         }
 
     def test_ending_decides(self) -> None:
-        endings = {"o.rlg": "rlg", "o.csv": "csv", "o.asc": "esri", "o": "rlg", "csv": "rlg", "o.csv.bin": "rlg"}
-        for name, form in endings.items():
-            said = f"{name}: a grid of 5 columns and 3 rows\n"
-            self.assert_written(f"grid f.rls -o {name}", said, name, self.forms[form])
+        endings = {"rlg": "o.rlg o csv asc o.csv.x", "csv": "o.csv .csv o.asc.csv", "esri": "o.asc o.csv.asc"}
+        for form, names in endings.items():
+            for name in names.split():
+                said = f"{name}: a grid of 5 columns and 3 rows\n"
+                self.assert_written(f"grid f.rls -o {name}", said, name, self.forms[form])
 
     def test_form_given(self) -> None:
         for form, wanted in self.forms.items():

@@ -122,6 +122,7 @@ class Look(ToolTest):
             self.put("f.rls", data)
             for location in ("4096 0", "0 4096", "4294967296 0", "0 123456789012345678901234567890", "65536 65536"):
                 self.assert_ran(f"look f.rls {location}", 1, errors=f"f.rls: {refused(1)}\n")
+            self.assert_ran("look f.rls -1 0", 1, errors=f"f.rls: {refused(1)}\n")
             self.assert_ran("look -- f.rls -1 0", 1, errors=f"f.rls: {refused(1)}\n")
             self.assert_ran("look -- f.rls 0 -4294967296", 1, errors=f"f.rls: {refused(1)}\n")
 

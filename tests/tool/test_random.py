@@ -6,12 +6,12 @@ import unittest
 from random import Random
 from unittest import mock
 
-import edit_model
 import files
 import scripts
 import tables
 import tool
 from edit_model import Editor
+from test_edit import EditTest
 from texts import survey_of
 from tool import SEED, Ran, ToolTest
 
@@ -66,20 +66,7 @@ class RandomTables(ToolTest):
             self.assert_imported(table, b"\n")
 
 
-class RandomScripts(ToolTest):
-    def assert_edited(self, name: str, lines: list[str]) -> None:
-        """All that a script says, its status, and every file after it."""
-        model = Editor(name, {each: self.bytes_of(each) for each in self.names()})
-        model.run(lines)
-        ran = self.run_tool(["edit", name], "".join(line + "\n" for line in lines).encode())
-        shown = ran.errors.decode()
-        if edit_model.FEWER_THAN_TWELVE in shown:
-            shown = "".join(line.partition("; give ")[0].rstrip("\n") + "\n" for line in shown.splitlines(True))
-        self.assertEqual(shown, "".join(model.errors), lines)
-        self.assertEqual(ran.output.decode(), "".join(model.output), lines)
-        self.assertEqual(ran.status, model.status, lines)
-        self.assertEqual({each: self.bytes_of(each) for each in self.names()}, model.disk, lines)
-
+class RandomScripts(EditTest):
     def put_files(self, rng: Random) -> list[tuple[int, int, int]]:
         """A file to edit, two to load, and a bad one; at times the first is not there."""
         points = scripts.start(rng)
@@ -100,7 +87,7 @@ class RandomScripts(ToolTest):
             for name in self.names():
                 (self.folder / name).unlink()
             points = self.put_files(rng)
-            self.assert_edited("f.rls", scripts.make(rng, points, OTHERS))
+            self.assert_like_the_model("f.rls", scripts.make(rng, points, OTHERS))
 
     def test_scripts(self) -> None:
         for seed in range(SEED, SEED + SCRIPTS):
@@ -125,7 +112,7 @@ class RandomScripts(ToolTest):
         lines = ["add 1 1 1", "drop 1 1", "add 2 2 2", "undo", "list", "write"]
         for name, wrong in (("do_undo", undo_twice), ("do_drop", drop_nothing), ("do_write", write_bare)):
             with mock.patch.object(Editor, name, wrong), self.assertRaises(AssertionError):
-                self.assert_edited("f.rls", lines)
+                self.assert_like_the_model("f.rls", lines)
 
     def told_of_seed(self, seed: int) -> str:
         """What a script of a seed is told, by the model without its lookups."""

@@ -85,6 +85,10 @@ class Terminal(ToolTest):
         for answer in ("no\n", "n\n", END_OF_INPUT):
             self.assert_answered(answer, "", False)
 
+    def test_another_answer_is_noticed(self) -> None:
+        with self.assertRaises(AssertionError):
+            self.assert_answered("no\n", "f.rls: a survey of 6 points\n", True)
+
     def test_anything_else_goes_on(self) -> None:
         for word in ("maybe", "", "list"):
             self.assert_answered(f"{word}\nundo\nundo\nquit\n", "> ok\n> ok\n> ", False)

@@ -150,6 +150,11 @@ class Usage(ToolTest):
         self.assert_usage("look none.rls a 1", "'a' is no whole number")
         self.assert_usage("grid none.rls -o o --as x", "'x' is no form: rlg, csv or esri")
 
+    def test_another_reason_is_noticed(self) -> None:
+        for why in ("no option '--y'", "TABLE is missing"):
+            with self.assertRaises(AssertionError):
+                self.assert_usage("import --x t.csv -o o", why)
+
 
 class Options(ToolTest):
     def setUp(self) -> None:
