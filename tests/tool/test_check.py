@@ -165,7 +165,7 @@ def a_number(rng: Random, data: bytes) -> bytes:
 
 def back_distance(rng: Random, data: bytes) -> bytes:
     number = rng.choice((0, 1, len(data), len(data) - 18, 2**31, rng.randrange(2**32)))
-    return data[:-8] + pack(">I", number) + data[-4:]
+    return data[:-8] + pack(">I", number % 2**32) + data[-4:]
 
 
 def the_magic(rng: Random, data: bytes) -> bytes:
