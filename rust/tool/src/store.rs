@@ -13,6 +13,9 @@ use std::process;
 const NO_SUCH_FILE: i32 = 2;
 const IS_A_DIRECTORY: i32 = 21;
 
+/// Bytes of a file's name that its temporary's name keeps, of the 255 that a name has at most.
+const NAME_KEPT: usize = 200;
+
 /// As many links as the system follows.
 const LINKS_MOST: usize = 40;
 
@@ -99,14 +102,14 @@ fn unless_there(error: io::Error, name: &OsStr) -> io::Error {
     }
 }
 
-/// `.NAME.PID.tmp`, unless the path names a folder or nothing.
+/// `.NAME.PID.tmp`, with NAME cut where the whole would be longer than a name can be, unless the path names a folder or nothing.
 fn temporary_name(path: &Path) -> io::Result<OsString> {
     let name = path.file_name().ok_or_else(|| io::Error::from_raw_os_error(NO_SUCH_FILE))?;
     if !path.as_os_str().as_bytes().ends_with(name.as_bytes()) {
         return Err(io::Error::from_raw_os_error(IS_A_DIRECTORY));
     }
     let mut temporary = OsString::from(".");
-    temporary.push(name);
+    temporary.push(OsStr::from_bytes(name.as_bytes().get(..NAME_KEPT).unwrap_or(name.as_bytes())));
     temporary.push(format!(".{}.tmp", process::id()));
     Ok(temporary)
 }
