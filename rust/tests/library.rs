@@ -1,8 +1,10 @@
 //! The library held to an implementation of documents 01 and 02 that was written apart, on random and damaged input.
-//! The tests of the Esri ASCII grid are in `esri`.
+//! The tests of the Esri ASCII grid are in `esri`, those of grid files that are read in `grid_file`, and those of the refusals' names in `refusals`.
 mod esri;
+mod grid_file;
 mod input;
 mod paper;
+mod refusals;
 
 use input::{damaged, mend_sum, Random};
 use paper::Point;

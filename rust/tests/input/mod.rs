@@ -1,4 +1,6 @@
-//! Random points, numbers in and out of range, and damaged files.
+//! Random points, numbers in and out of range, and damaged files; `grid_file` has those of grids.
+pub mod grid_file;
+
 use crate::paper::{self, Point};
 
 /// splitmix64

@@ -1,6 +1,7 @@
 //! Document 01 in Rust, written from the paper alone, to hold the library to: points in a vector, the mean in f64.
-//! `esri` has document 02's text of a grid.
+//! `esri` has document 02's text of a grid, `grid_file` how a grid file is read.
 pub mod esri;
+pub mod grid_file;
 
 use shepard::{Grid, Kind, Neighbour};
 
