@@ -8,7 +8,7 @@ from struct import unpack
 
 import files
 import lookups
-from texts import GRID_RULES, refused, shown, survey_of
+from texts import BROKEN_FRONT, GRID_RULES, refused, shown, survey_of
 from tool import grid_file
 
 import exact_files
@@ -131,7 +131,7 @@ class Editor:
             raise NotDone(FEWER_THAN_TWELVE)
         grid = self.own_grid()
         if grid is None:
-            raise NotDone(f"refused 7: {GRID_RULES}")
+            raise NotDone(f"refused 7: {BROKEN_FRONT.replace('--grid', 'grid')}")
         if not self.state[0]:
             raise NotDone(refused(6))
         return files.csv_of(grid_file(grid, self.file()))

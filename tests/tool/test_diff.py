@@ -7,7 +7,7 @@ from collections.abc import Sequence
 from random import Random
 
 import files
-from texts import REFUSALS, TOO_FEW_BYTES, grid_file_refused, refused, six, steps
+from texts import BROKEN_FRONT, NEITHER_MAGIC, REFUSALS, TOO_FEW_BYTES, grid_file_refused, refused, six, steps
 from tool import SAMPLE, SEED, ToolTest, grid_file
 
 import exact_files
@@ -151,10 +151,9 @@ class Unlike(DiffTest):
     def test_a_grid_file_and_the_command_line(self) -> None:
         self.put("a", files.made_grid_file((0, 0, 65, 65, 1, 1), [0]))
         self.put("b", files.survey(files.FOUR))
-        for words in ("diff a b --grid 0,0,64,64,1,1", "diff b a --grid 0,0,64,64,1,1"):
-            ran = self.run_tool(words)
-            self.assertEqual((ran.status, ran.output, ran.errors.count(b"\n")), (2, b"", 1), ran)
-            self.assertIn(b" have unlike grids: ", ran.errors)
+        errors = "a and --grid have unlike grids: 0,0,65,65,1,1 and 0,0,64,64,1,1\n"
+        for words in ("diff a b --grid 0,0,64,64,1,1", "diff b a --grid 0,0,64,64,1,1", "diff a a --grid 0,0,64,64,1,1"):
+            self.assert_ran(words, 2, errors=errors)
 
 
 class RefusedDiffs(ToolTest):
@@ -169,7 +168,7 @@ class RefusedDiffs(ToolTest):
         for words in ("diff bad good", "diff good bad", "diff good.rlg bad"):
             ran = self.run_tool(words)
             self.assertEqual((ran.status, ran.output), (1, b""))
-            self.assertTrue(ran.errors.startswith(b"bad: refused 10: "), ran.errors)
+            self.assertEqual(ran.errors, f"bad: refused 10: {NEITHER_MAGIC}\n".encode())
         self.assert_ran("diff good bad.rlg", 1, errors=f"bad.rlg: {grid_file_refused(12)}\n")
 
     def test_no_point(self) -> None:
@@ -183,7 +182,8 @@ class RefusedDiffs(ToolTest):
         self.assert_ran("diff bare bare", 1, errors=f"bare: refused 7: {TOO_FEW_BYTES}\n")
         self.assert_ran("diff good bare", 1, errors=f"bare: refused 7: {TOO_FEW_BYTES}\n")
         self.assert_ran("diff bare good", 1, errors=f"bare: refused 7: {TOO_FEW_BYTES}\n")
-        self.assert_ran("diff rule rule", 1, errors=f"rule: refused 7: {REFUSALS[7]}\n")
+        self.assert_ran("diff rule rule", 1, errors=f"rule: refused 7: {BROKEN_FRONT}\n")
+        self.assert_ran("diff good rule", 1, errors=f"rule: refused 7: {BROKEN_FRONT}\n")
         ran = self.run_tool("diff bare bare --grid 0,0,0,1,1,1")
         self.assertEqual((ran.status, ran.output, ran.errors), (1, b"", f"bare: refused 7: {REFUSALS[7]}\n".encode()))
 

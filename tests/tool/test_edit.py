@@ -8,7 +8,7 @@ from collections.abc import Sequence
 
 import files
 from edit_model import Editor
-from texts import GRID_RULES, refused
+from texts import BROKEN_FRONT, GRID_RULES, refused
 from tool import ToolTest, grid_file
 
 FRESH = "new.rls: a new survey\n"
@@ -171,7 +171,8 @@ class NotDone(EditTest):
         self.put("e.rls", files.survey([], files.FOUR_GRID))
         self.assert_edits("grid\n", 1, "", f"line 1: grid: {refused(6)}\n", "e.rls")
         self.put("b.rls", files.survey(files.FOUR, (), bytes(12)))
-        self.assert_edits("grid\n", 1, "", f"line 1: grid: refused 7: {GRID_RULES}\n", "b.rls")
+        broken = BROKEN_FRONT.replace("--grid", "grid")
+        self.assert_edits("grid\n", 1, "", f"line 1: grid: refused 7: {broken}\n", "b.rls")
         self.assert_like_the_model("fresh.rls", ["grid"])
 
     def test_full_survey(self) -> None:
@@ -246,12 +247,16 @@ class NotDone(EditTest):
         self.assertEqual((ran.status, ran.output, ran.errors.count(b"\n")), (1, b"", 1))
         self.assertEqual(self.bytes_of("f.rlg"), data)
 
+    def test_a_folder_that_is_not_there(self) -> None:
+        """A survey that could not be written is not begun."""
+        self.assert_ran("edit d/x.rls", 2, "", "d/x.rls: No such file or directory (os error 2)\n", b"clear\n")
+
     def test_a_file_that_has_no_room(self) -> None:
         """A file of 65,536 bytes with a point more would be refused by every reader, so it is not written."""
         data = files.survey(files.FOUR, (), bytes(65_536 - 32))
         self.put("f.rls", data)
-        ran = self.run_tool("edit f.rls", b"add 1 1 1\nwrite\n")
-        self.assertNotEqual(ran.status, 0, ran)
+        errors = "line 1: add 1 1 1: refused 9: the file would have over 65,536 bytes\n"
+        self.assert_edits("add 1 1 1\nwrite\n", 1, "f.rls: a survey of 4 points\n", errors, "f.rls")
         self.assertEqual(self.bytes_of("f.rls"), data)
         said = "f.rls: a survey of 3 points\n"
         self.assert_edits("drop 100 200\nwrite\n", 0, "ok\n" + said, "", "f.rls")

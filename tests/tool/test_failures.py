@@ -174,6 +174,12 @@ class Places(FailureTest):
         for words in WRITERS:
             self.assert_failed(f"{words} {name}", f"{name}: File name too long (os error 36)\n")
 
+    def test_the_longest_name(self) -> None:
+        for words in WRITERS:
+            wanted, name = self.result(words), "n" * 255
+            self.assertEqual(self.run_tool(f"{words} {name}").status, 0, words)
+            self.assertEqual(self.bytes_of(name), wanted)
+
     def test_an_empty_name(self) -> None:
         ran = self.run_tool(["export", "f.rls", "-o", ""])
         self.assertEqual((ran.status, ran.output), (2, b""))

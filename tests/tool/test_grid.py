@@ -8,7 +8,7 @@ from fractions import Fraction
 from random import Random
 
 import files
-from texts import GRID_RULES, TOO_FEW_BYTES, grid_of, refused, six
+from texts import BROKEN_FRONT, GRID_RULES, TOO_FEW_BYTES, grid_of, refused, six
 from tool import SAMPLE, SEED, ToolTest, esri_text, grid_file
 
 import damage
@@ -170,7 +170,7 @@ class RefusedGrids(ToolTest):
         for index in range(40):
             numbers = grids.improper_grid(rng)
             points = files.FOUR if index % 2 else []
-            self.assert_refused(files.survey(points, numbers), f"refused 7: {GRID_RULES}")
+            self.assert_refused(files.survey(points, numbers), f"refused 7: {BROKEN_FRONT}")
             words = f"--grid {six(numbers)}"
             self.assert_refused(files.survey(points, files.FOUR_GRID), f"refused 7: {GRID_RULES}", words)
 

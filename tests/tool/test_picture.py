@@ -11,7 +11,7 @@ from xml.etree import ElementTree
 
 import files
 from drawing import SVG, Shape, shapes
-from texts import GRID_RULES, TOO_FEW_BYTES, grid_of, refused, six, steps
+from texts import BROKEN_FRONT, GRID_RULES, TOO_FEW_BYTES, grid_of, refused, six, steps
 from tool import SAMPLE, SEED, ToolTest, grid_file
 
 import exact
@@ -238,7 +238,7 @@ class RefusedMaps(ToolTest):
 
     def test_grids_and_points(self) -> None:
         self.assert_refused(files.survey(files.FOUR), f"refused 7: {TOO_FEW_BYTES}")
-        self.assert_refused(files.survey(files.FOUR, (0,) * 6), f"refused 7: {GRID_RULES}")
+        self.assert_refused(files.survey(files.FOUR, (0,) * 6), f"refused 7: {BROKEN_FRONT}")
         self.assert_refused(files.survey(files.FOUR), f"refused 7: {GRID_RULES}", "--grid 0,0,1,1,65,1")
         self.assert_refused(files.survey([], files.FOUR_GRID), refused(6))
         self.assert_refused(files.survey(files.FOUR)[1:], refused(12))

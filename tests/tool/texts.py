@@ -8,6 +8,7 @@ GRID_RULES = (
     "the grid breaks a rule: steps of at least 1, 1 to 64 columns and rows, the last column and row in the domain"
 )
 TOO_FEW_BYTES = "fewer than 12 bytes stand before its first record; give --grid X0,Y0,SX,SY,C,R"
+BROKEN_FRONT = "its first 12 bytes are a grid that breaks a rule; give --grid X0,Y0,SX,SY,C,R"
 
 REFUSALS = {
     1: "the location is off the domain",

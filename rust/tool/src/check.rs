@@ -1,10 +1,10 @@
 //! `shepard check`: what survey and grid files hold, or why they are refused.
 use crate::failure::{Failure, Outcome, DONE};
-use crate::source::{self, Input, SurveyFile};
+use crate::source::{Input, SurveyFile};
 use crate::steps::steps;
 use crate::words::Words;
 use crate::{output, text};
-use shepard::{GridFile, Point, Refusal};
+use shepard::{GridFile, Point};
 use std::ffi::OsStr;
 
 pub fn run(words: &Words) -> Outcome {
@@ -21,16 +21,8 @@ pub fn run(words: &Words) -> Outcome {
 
 fn line(path: &OsStr) -> Result<String, Failure> {
     let input = Input::read(path)?;
-    let held = if input.is_grid_file() { of_grid(&input.grid_file()?) } else { of_survey(&survey(&input)?) };
+    let held = if input.is_grid_file() { of_grid(&input.grid_file()?) } else { of_survey(&input.either_as_survey()?) };
     Ok(format!("{}: {held}\n", input.name))
-}
-
-/// The survey of a file that may have been meant as either kind.
-fn survey(input: &Input) -> Result<SurveyFile, Failure> {
-    SurveyFile::read(&input.bytes).map_err(|refusal| match refusal {
-        Refusal::FILE_MAGIC => Failure::Refused(format!("{}: refused 10: its last four bytes are neither RLS1 nor RLG1", input.name)),
-        _ => input.refused(refusal),
-    })
 }
 
 fn of_survey(file: &SurveyFile) -> String {
@@ -52,7 +44,7 @@ fn ends(name: &str, points: &[Point], of: impl Fn(&Point) -> i64) -> String {
 /// What stands before the records.
 fn front(file: &SurveyFile) -> String {
     match file.own_grid() {
-        Some(grid) if source::is_grid(&file.survey, &grid) => format!(", grid {}", text::six(&grid)),
+        Ok(grid) => format!(", grid {}", text::six(&grid)),
         _ if file.front.is_empty() => String::new(),
         _ => format!(", {} before its records", text::count(file.front.len(), "byte")),
     }

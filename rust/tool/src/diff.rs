@@ -32,7 +32,7 @@ pub fn run(words: &Words) -> Outcome {
 
 impl Side {
     fn of(input: Input) -> Result<Side, Failure> {
-        let held = if input.is_grid_file() { Held::Grid(input.grid_file()?) } else { Held::Survey(input.survey()?) };
+        let held = if input.is_grid_file() { Held::Grid(input.grid_file()?) } else { Held::Survey(input.either_as_survey()?) };
         Ok(Side { input, held })
     }
 
@@ -48,7 +48,7 @@ impl Side {
     fn grid(&self, chosen: Option<Grid>) -> Result<Grid, Failure> {
         match &self.held {
             Held::Grid(file) => Ok(file.grid),
-            Held::Survey(file) => chosen.or(file.own_grid()).ok_or_else(|| self.input.no_grid()),
+            Held::Survey(file) => self.input.chosen_grid(file, chosen),
         }
     }
 
@@ -60,17 +60,24 @@ impl Side {
     }
 }
 
+/// The grid of both sides; one that is given has to be that of a grid file, and goes before a survey's own.
 fn common_grid(a: &Side, b: &Side, given: Option<Grid>) -> Result<Grid, Failure> {
+    for side in [a, b] {
+        if let (Some(given), Some(fixed)) = (given, side.fixed_grid()) {
+            alike(&side.input.name, &fixed, "--grid", &given)?;
+        }
+    }
     let chosen = given.or(a.fixed_grid()).or(b.fixed_grid());
     let (of_a, of_b) = (a.grid(chosen)?, b.grid(chosen)?);
-    let unlike = |other: &str, of_other: &Grid| {
-        Failure::Trouble(format!("{} and {other} have unlike grids: {} and {}", a.input.name, text::six(&of_a), text::six(of_other)))
-    };
-    match given {
-        _ if of_a != of_b => Err(unlike(&b.input.name, &of_b)),
-        Some(given) if given != of_a => Err(unlike("--grid", &given)),
-        _ => Ok(of_a),
+    alike(&a.input.name, &of_a, &b.input.name, &of_b)?;
+    Ok(of_a)
+}
+
+fn alike(one: &str, of_one: &Grid, other: &str, of_other: &Grid) -> Result<(), Failure> {
+    if of_one == of_other {
+        return Ok(());
     }
+    Err(Failure::Trouble(format!("{one} and {other} have unlike grids: {} and {}", text::six(of_one), text::six(of_other))))
 }
 
 /// A cell that differs.

@@ -59,13 +59,25 @@ impl Input {
 
     /// The survey of a file, and the grid that it is worked out over.
     pub fn survey_and_grid(&self, given: Option<Grid>) -> Result<(Survey, Grid), Failure> {
-        let file = self.survey()?;
-        let grid = given.or(file.own_grid()).ok_or_else(|| self.no_grid())?;
+        let file = self.either_as_survey()?;
+        let grid = self.chosen_grid(&file, given)?;
         Ok((file.survey, grid))
     }
 
-    pub fn no_grid(&self) -> Failure {
-        Failure::Refused(format!("{}: {NO_GRID}; give --grid X0,Y0,SX,SY,C,R", self.name))
+    /// The grid that is given, or else the survey's own.
+    pub fn chosen_grid(&self, file: &SurveyFile, given: Option<Grid>) -> Result<Grid, Failure> {
+        match given {
+            Some(grid) => Ok(grid),
+            None => file.own_grid().map_err(|why| Failure::Refused(format!("{}: {why}; give --grid X0,Y0,SX,SY,C,R", self.name))),
+        }
+    }
+
+    /// The survey of a file that is no grid file, for a command that takes either.
+    pub fn either_as_survey(&self) -> Result<SurveyFile, Failure> {
+        SurveyFile::read(&self.bytes).map_err(|refusal| match refusal {
+            Refusal::FILE_MAGIC => Failure::Refused(format!("{}: refused 10: its last four bytes are neither RLS1 nor RLG1", self.name)),
+            _ => self.refused(refusal),
+        })
     }
 
     pub fn refused(&self, refusal: Refusal) -> Failure {
@@ -73,8 +85,9 @@ impl Input {
     }
 }
 
-/// The refusal of the grid programs where a survey file has no room for a grid in front.
-pub const NO_GRID: &str = "refused 7: fewer than 12 bytes stand before its first record";
+/// Why a survey file has no grid of its own, by the number of the grid programs.
+const NO_GRID: &str = "refused 7: fewer than 12 bytes stand before its first record";
+const BROKEN_GRID: &str = "refused 7: its first 12 bytes are a grid that breaks a rule";
 
 /// A copy of standard input: the standard library's own handle takes a descriptor that cannot be read for an empty file.
 pub fn standard_input() -> io::Result<File> {
@@ -110,9 +123,14 @@ impl SurveyFile {
         [&self.front, self.survey.as_file()].concat()
     }
 
-    /// The grid of its first twelve bytes, whether the library accepts it or not.
-    pub fn own_grid(&self) -> Option<Grid> {
-        self.front.first_chunk().map(Grid::from_bytes)
+    /// The grid of its first twelve bytes, or why it has none.
+    pub fn own_grid(&self) -> Result<Grid, &'static str> {
+        let grid = self.front.first_chunk().map(Grid::from_bytes).ok_or(NO_GRID)?;
+        if is_grid(&self.survey, &grid) {
+            Ok(grid)
+        } else {
+            Err(BROKEN_GRID)
+        }
     }
 }
 

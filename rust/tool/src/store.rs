@@ -114,6 +114,11 @@ fn temporary_name(path: &Path) -> io::Result<OsString> {
     Ok(temporary)
 }
 
+/// Whether the folder is there in which a file would be made.
+pub fn has_folder(path: &OsStr) -> bool {
+    folder_of(&followed(Path::new(path))).is_dir()
+}
+
 fn folder_of(path: &Path) -> &Path {
     match path.parent() {
         Some(folder) if !folder.as_os_str().is_empty() => folder,

@@ -3,7 +3,7 @@ use super::history::History;
 use super::lines::Lines;
 use super::order::{order, Order};
 use crate::failure::{self, Failure, DONE, REFUSED};
-use crate::source::{self, Input, SurveyFile, NO_GRID};
+use crate::source::{self, Input, SurveyFile};
 use crate::{export, grid, look, output, store, table, text};
 use shepard::{bytes, Grid, Refusal, Survey};
 use std::ffi::{OsStr, OsString};
@@ -90,7 +90,10 @@ impl Session {
 
     /// Makes a change, unless the library would refuse the file that it gives: one that is too long.
     fn take(&mut self, next: SurveyFile) -> Result<String, Failure> {
-        bytes::check(&next.bytes()).map_err(refused)?;
+        bytes::check(&next.bytes()).map_err(|refusal| match refusal {
+            Refusal::FILE_LENGTH => Failure::Refused("refused 9: the file would have over 65,536 bytes".to_string()),
+            _ => refused(refusal),
+        })?;
         self.history.change(next);
         Ok(DONE_LINE.to_string())
     }
@@ -156,7 +159,7 @@ fn opened(file: &OsStr) -> Result<SurveyFile, Failure> {
     let name = text::name(file);
     match source::named(file) {
         Ok(bytes) => Input { name, bytes }.survey(),
-        Err(error) if error.kind() == io::ErrorKind::NotFound => {
+        Err(error) if error.kind() == io::ErrorKind::NotFound && store::has_folder(file) => {
             output::tell(&format!("{name}: a new survey"));
             Ok(SurveyFile { front: [].into(), survey: Survey::new() })
         }
@@ -171,7 +174,7 @@ fn refused(refusal: Refusal) -> Failure {
 
 /// The cells over the file's own grid.
 fn cells(file: &SurveyFile) -> Result<String, Failure> {
-    let grid = file.own_grid().ok_or_else(|| Failure::Refused(format!("{NO_GRID}; give grid X0,Y0,SX,SY,C,R")))?;
+    let grid = file.own_grid().map_err(|why| Failure::Refused(format!("{why}; give grid X0,Y0,SX,SY,C,R")))?;
     grid::csv_of(&file.survey, &grid).map_err(refused)
 }
 
@@ -180,8 +183,7 @@ fn with_grid(file: &SurveyFile, grid: &Grid) -> Result<SurveyFile, Failure> {
     if !source::is_grid(&file.survey, grid) {
         return Err(refused(Refusal::GRID_RULE));
     }
-    let had_one = file.own_grid().is_some_and(|own| source::is_grid(&file.survey, &own));
-    let kept = file.front.iter().skip(if had_one { 12 } else { 0 });
+    let kept = file.front.iter().skip(if file.own_grid().is_ok() { 12 } else { 0 });
     Ok(SurveyFile { front: grid.to_bytes().iter().chain(kept).copied().collect(), survey: file.survey.clone() })
 }
 
