@@ -32,7 +32,7 @@ pub fn long_at(s: &[u8], i: usize) -> usize
     65536 * word_at(s, i) + word_at(s, i + 2)
 }
 
-// Whether as many bytes of one list and of another are the same.
+// Whether two lists of as many bytes are the same.
 pub fn same<'a>(s: &'a [u8], t: &'a [u8]) -> bool
     requires { ⌜ length (now s) ≡ length (now t) ⌝ }
     ensures { λ r. ⌜ r ≡ sameAs (now (s .entry)) (now (t .entry)) ⌝ }
