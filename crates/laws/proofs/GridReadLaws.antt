@@ -94,23 +94,23 @@ length-ends n h = let g = some-grid n h in (omega (arith, g .size), omega (arith
 abbrev pub Fits : ℤ → Type 0
 Fits z = mag z < 32768
 
-pub cells-back : (l : List ℤ) → All Fits l → cellsOf (cellsBytes l) ≡ l
+encoded-decoded : (l : List ℤ) → All Fits l → cellsOf (cellsBytes l) ≡ l
 unfolding cellsOf cellsBytes flatMap
-cells-back [] h = refl
-cells-back (z ∷ l) h =
+encoded-decoded [] h = refl
+encoded-decoded (z ∷ l) h =
     let w = complement 32768 z in
     let e : word (w / 256 % 256) (w % 256) ≡ w = omega (arith, word-back w, complement-below 32768 z (h .0)) in
-    rw (e, signed-back 32768 z (h .0)) (ap {B = List ℤ} (λ m. z ∷ m) (cells-back l (h .1)))
+    rw (e, signed-back 32768 z (h .0)) (ap {B = List ℤ} (λ m. z ∷ m) (encoded-decoded l (h .1)))
 
-pub bytes-back : (r : List ℕ) → Bytes r → length r % 2 ≡ 0 → cellsBytes (cellsOf r) ≡ r
+decoded-encoded : (r : List ℕ) → Bytes r → length r % 2 ≡ 0 → cellsBytes (cellsOf r) ≡ r
 unfolding cellsOf cellsBytes flatMap
-bytes-back [] h n = refl
-bytes-back (a ∷ []) h n = absurd (omega arith)
-bytes-back (a ∷ b ∷ r) h n =
+decoded-encoded [] h n = refl
+decoded-encoded (a ∷ []) h n = absurd (omega arith)
+decoded-encoded (a ∷ b ∷ r) h n =
     let e : bytes2 (word a b) ≡ a ∷ b ∷ [] = bytes2-word (word a b) a b (h .0) (h .1 .0) (omega arith) in
-    rw (complement-back 32768 (word a b) (omega (arith, h .0, h .1 .0)), bytes-back r (h .1 .1) (omega arith)) (ap (λ u. u ++ r) e)
+    rw (complement-back 32768 (word a b) (omega (arith, h .0, h .1 .0)), decoded-encoded r (h .1 .1) (omega arith)) (ap (λ u. u ++ r) e)
 
-pub length-cells-of : (r : List ℕ) → length (cellsOf r) ≡ length r / 2
+length-cells-of : (r : List ℕ) → length (cellsOf r) ≡ length r / 2
 unfolding cellsOf
 length-cells-of [] = refl
 length-cells-of (a ∷ []) = refl
@@ -154,7 +154,7 @@ readable-check f n a =
     rw (a .some, e, a .rules, eq-eqb (cellsBack f) (2 * cellCount (gridOfFile f)) (a .back), eq-eqb (length f) (gridFileLength (gridOfFile f)) (a .size))
 
 -- what a file is refused with does not depend on what would follow
-pub check-first : (f : List ℕ) (n : ℕ) → (gridFileCheck f 0 ≡ 0 → ⊥) → gridFileCheck f n ≡ gridFileCheck f 0
+check-first : (f : List ℕ) (n : ℕ) → (gridFileCheck f 0 ≡ 0 → ⊥) → gridFileCheck f n ≡ gridFileCheck f 0
 unfolding gridFileCheck
 check-first f n h =
     go (not (someLength (length f))) (not (same (gridMagicIn f) gridMagic)) (not (proper (gridOfFile f)))
@@ -229,7 +229,7 @@ module _ (g : Grid) (l : List ℤ) (rules : proper g ≡ true) (words : TwoBytes
               size = length-is ∙ ap (λ (k : Grid). gridFileLength k) (sym grid-is);
             });
         grid = grid-is;
-        cells = ap cellsOf front ∙ cells-back l fits;
+        cells = ap cellsOf front ∙ encoded-decoded l fits;
       }
 
 -- the bytes of a trailer as they are read
@@ -275,7 +275,7 @@ module _ (f : List ℕ) (b : Bytes f) (a : Readable f) where
   again =
       let k = gridTrailerStart f in
       let whole : length (take k f) ≡ k = length-take-le k f (omega arith) in
-      let cells : cellsBytes (cellsOf (take k f)) ≡ take k f = bytes-back (take k f) (all-take (λ c. c < 256) k f b) (omega (arith, whole, a .size)) in
+      let cells : cellsBytes (cellsOf (take k f)) ≡ take k f = decoded-encoded (take k f) (all-take (λ c. c < 256) k f b) (omega (arith, whole, a .size)) in
       let back : length (take k f) ≡ longAt (drop k f) 12 = sym (sym (long-drop f k 12) ∙ a .back ∙ omega (arith, whole, a .size)) in
       let rest = trailer-again (drop k f) (length (take k f)) (all-drop (λ c. c < 256) k f b) (rw length-drop (omega (arith, a .size))) back (drop-drop 16 k f ∙ a .marked) in
       rw (cells, rest) (take-append-drop k f)
