@@ -10,7 +10,7 @@ from pathlib import Path
 
 from tool import REPOSITORY, SECONDS, TOOL
 
-PROMPT = "$ "
+SHELL = "$ "
 TABLE = "wear;rest;shift"
 
 
@@ -27,10 +27,10 @@ def blocks(text: str) -> list[list[str]]:
 
 def commands(block: list[str]) -> list[tuple[str, str]]:
     """The commands of a block, each with the lines that it prints."""
-    starts = [at for at, line in enumerate(block) if line.startswith(PROMPT)]
+    starts = [at for at, line in enumerate(block) if line.startswith(SHELL)]
     ends = [*starts[1:], len(block)]
     shown = (block[start:end] for start, end in zip(starts, ends))
-    return [(lines[0][len(PROMPT) :], "".join(line + "\n" for line in lines[1:])) for lines in shown]
+    return [(lines[0][len(SHELL) :], "".join(line + "\n" for line in lines[1:])) for lines in shown]
 
 
 def printed(command: str, folder: Path) -> str:

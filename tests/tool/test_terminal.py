@@ -1,4 +1,4 @@
-"""Runs edit on a pseudo-terminal: its prompt, its short messages and its question at the end."""
+"""Runs edit on a pseudo-terminal: the sign before each line, its short messages and its question at the end."""
 
 from __future__ import annotations
 
@@ -60,13 +60,13 @@ class Terminal(ToolTest):
             os.close(ours)
             return running.wait(), shown.decode()
 
-    def test_prompt_and_messages(self) -> None:
+    def test_sign_and_messages(self) -> None:
         shown = "new.rls: a new survey\n> ok\n> " + refused(3) + "\n> no command 'x'\n> > 1,2,3\n> ok\n> "
         typed = "add 1 2 3\nadd 1 2 3\nx\n\nlist\nundo\nquit\n"
         self.assertEqual(self.transcript("new.rls", typed), (0, shown))
 
     def test_end_of_input(self) -> None:
-        """It shows nothing more than a prompt where nothing is unwritten."""
+        """It shows nothing more than the sign where nothing is unwritten."""
         status, shown = self.transcript("new.rls", END_OF_INPUT)
         self.assertEqual((status, shown.rstrip("\n")), (0, "new.rls: a new survey\n> "))
 
@@ -93,7 +93,7 @@ class Terminal(ToolTest):
         for word in ("maybe", "", "list"):
             self.assert_answered(f"{word}\nundo\nundo\nquit\n", "> ok\n> ok\n> ", False)
 
-    def test_no_prompt_where_the_output_is_no_terminal(self) -> None:
+    def test_no_sign_where_the_output_is_no_terminal(self) -> None:
         ours, theirs = plain_terminal()
         os.write(ours, b"list\n" + END_OF_INPUT.encode())
         self.put("f.rls", files.survey(files.FOUR))

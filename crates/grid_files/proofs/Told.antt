@@ -7,7 +7,7 @@ use mathlib.Core.List.{List}
 use lib.Dec.{eqb}
 use lib.IntN.{ℤ}
 use lib.ListN.{length}
-use borrow.Author.Tests.{eqb-true, eqb-false, eq-eqb, ne-eqb}
+use borrow.Author.Tests.{eqb-true, eqb-false, ne-eqb}
 use Rattle.model.specs.Grid.{cellCount}
 use Rattle.model.specs.GridReading.{gridOfFile, cellsReadRefusal, cellsReadInto}
 use Rattle.grid_rules.specs.declared.Filled.{Filled}

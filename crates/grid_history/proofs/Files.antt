@@ -1,6 +1,6 @@
 -- The grid file of every program: whatever the calls, a grid file that is written after them is accepted, and read back as the grid's six numbers and its cells over what the model
 -- says is present.
-use mathlib.Core.Path.{_≡_, sym, _∙_}
+use mathlib.Core.Path.{_≡_}
 use Prim.Native.Nat.{ℕ}
 use mathlib.Core.List.{List}
 use lib.ListN.{length, take}
@@ -10,7 +10,6 @@ use Rattle.model.specs.Point.{Contents}
 use Rattle.model.specs.Extent.{settled}
 use Rattle.model.specs.Calls.{Call, present}
 use Rattle.model.specs.Invariant.{Invariant}
-use Rattle.model.specs.Refusals.{enough}
 use Rattle.model.specs.Grid.{cells, Grid as Model·Grid}
 use Rattle.model.specs.GridFile.{gridFile, gridFileLength, gridFileRefusal, gridFileInto}
 use Rattle.model.specs.GridReading.{States, TwoBytes}

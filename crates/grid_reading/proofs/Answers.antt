@@ -5,7 +5,7 @@ use native.Mathlib.Omega.{arith}
 use mathlib.Core.List.{List, _++_}
 use lib.IntN.{ℤ}
 use lib.ListN.{length, drop}
-use borrow.Author.Tests.{eq-eqb, ne-eqb, lt-ltb, le-ltb}
+use borrow.Author.Tests.{ne-eqb, lt-ltb, le-ltb}
 use Rattle.model.specs.Grid.{cellCount}
 use Rattle.model.specs.GridReading.{gridOfFile, cellsOfFile, gridFileCheck, cellsReadRefusal, cellsReadInto}
 use Rattle.laws.proofs.GridReadLaws.{Readable, read-refused, read-passes, cells-length}

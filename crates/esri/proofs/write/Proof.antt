@@ -1,7 +1,6 @@
 -- `write` meets its contract: 7, 16 or 6 refuses it before anything is worked out, and then the text's length decides.
 use mathlib.Core.Path.{_≡_, sym, _∙_}
 use native.Mathlib.Omega.{arith}
-use lib.ListN.{length}
 use lib.Seq.{length-take-le}
 use borrow.Author.Needs.{needs}
 use Rattle.model.specs.Esri.{esriText, esriCheck}

@@ -1,10 +1,9 @@
 -- `decode` meets its contract. The invariant: the cells so far, and those of the bytes that are left, are those of all.
 use mathlib.Core.Path.{_≡_, refl, sym, ap, _∙_}
-use Prim.Native.Nat.{ℕ, _+_, _*_, _-_, _≤_}
+use Prim.Native.Nat.{_+_, _*_, _-_, _≤_}
 use native.Mathlib.Numerals.{add-one}
 use native.Mathlib.Omega.{arith}
-use mathlib.Core.List.{List, [], _∷_, _++_, append-nil, append-assoc}
-use lib.IntN.{ℤ}
+use mathlib.Core.List.{_++_, append-nil, append-assoc}
 use lib.ListN.{length, take, drop, length-set}
 use lib.Seq.{take-all, take-suc-set}
 use mir.Syntax.{w16}

@@ -1,5 +1,5 @@
 -- `open` meets its contract: refused it gives six zeros, and of an accepted file the numbers of its trailer.
-use mathlib.Core.Path.{_≡_, refl, sym, ap, _∙_}
+use mathlib.Core.Path.{sym, ap, _∙_}
 use Prim.Native.Nat.{_-_}
 use native.Mathlib.Omega.{arith}
 use lib.ListN.{length, length-drop}

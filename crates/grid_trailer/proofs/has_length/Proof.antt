@@ -1,10 +1,9 @@
 -- `has_length` meets its contract. The invariant: no number of columns that was tried has a file of n bytes.
 use mathlib.Core.Path.{_≡_, refl, sym, _∙_}
-use Prim.Native.Nat.{ℕ, suc, _+_, _-_, _≤_}
+use Prim.Native.Nat.{ℕ, suc, _-_, _≤_}
 use native.Mathlib.Numerals.{add-one}
 use native.Mathlib.Omega.{arith}
 use mathlib.Core.Bool.{Bool, false}
-use borrow.Author.Tests.{not-true, not-false}
 use Rattle.model.specs.GridReading.{someBelow, columnsLength, someLength}
 use Rattle.laws.proofs.GridReadLaws.{some-below, none-below}
 use Rattle.grid_trailer.proofs.has_length.Statement.{statement}
