@@ -11,7 +11,7 @@ use lib.Seq.{take-take, take-append-le, take-length}
 use borrow.Author.Tests.{leb-true, leb-false}
 use Rattle.model.specs.Lists.{All}
 use Rattle.model.specs.Point.{Location, Point, State, point, precedes}
-use Rattle.model.specs.Distance.{squared}
+use Rattle.model.specs.Distance.{squared, distance}
 use Rattle.model.specs.Order.{sort}
 use Rattle.model.specs.Choice.{nearer, ordered}
 use Rattle.laws.proofs.ListLaws.{all-imp, all-map, all-take, pairs-map, pairs-both, map-same}
@@ -66,7 +66,7 @@ module _ (s : State) (p : Location) (xs ys : List ℕ) (zs : List ℤ) (n : ℕ)
     key-point = ap pointAt (key-index (getD squares i 0) (getD xs i 0 % 4096) (getD ys i 0 % 4096) i (omega arith) (omega arith) (omega (arith, size .1)))
 
     key-candidate : candidateOf zs (key i) ≡ candidateAt s p (pointOf (key i))
-    unfolding candidateAt
+    unfolding candidateAt candidateOf distance
     key-candidate =
         let x : getD xs i 0 % 4096 < 4096 = omega arith in
         let y : getD ys i 0 % 4096 < 4096 = omega arith in

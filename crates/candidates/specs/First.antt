@@ -8,19 +8,19 @@ use lib.IntN.{pos}
 use lib.ListN.{take}
 use Rattle.model.specs.Lists.{count, All}
 use Rattle.model.specs.Point.{Location, Point, State, inRange}
-use Rattle.model.specs.Distance.{squared}
+use Rattle.model.specs.Distance.{squared, distance}
 use Rattle.model.specs.Choice.{ordered}
 use Rattle.candidates.specs.declared.Candidate.{Candidate}
 use Rattle.candidates.specs.declared.Candidates.{Candidates}
 
 -- a point of s, seen from p
 unfoldable pub candidateAt : State → Location → Point → Candidate
-unfolding squared
-candidateAt s p a = record { x = a .x; y = a .y; z = a .z; squared = squared s p a }
+unfolding distance
+candidateAt s p a = record { x = a .x; y = a .y; z = a .z; distance = distance s p a }
 
 -- what is read past the end of the items
 abbrev pub noCandidate : Candidate
-noCandidate = record { x = 0; y = 0; z = pos 0; squared = 0 }
+noCandidate = record { x = 0; y = 0; z = pos 0; distance = 0 }
 
 -- those held
 abbrev pub listOf : Candidates → List Candidate

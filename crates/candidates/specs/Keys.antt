@@ -5,6 +5,7 @@ use lib.Dec.{ltb}
 use lib.IntN.{ℤ, pos}
 use lib.ListN.{take, getD, replicate}
 use Rattle.model.specs.Lists.{Pairs}
+use Rattle.model.specs.Distance.{distanceOf}
 use Rattle.model.specs.Order.{sortOnto}
 use Rattle.candidates.specs.declared.Candidate.{Candidate}
 
@@ -16,9 +17,13 @@ keyOf squared x y i = ((squared * 4096 + x) * 4096 + y) * 256 + i
 abbrev pub keyAt : List ℕ → List ℕ → List ℕ → ℕ → ℕ
 keyAt xs ys squares i = keyOf (getD squares i 0) (getD xs i 0 % 4096) (getD ys i 0 % 4096) i
 
--- what a key says, and the value at its index
-abbrev pub candidateOf : List ℤ → ℕ → Candidate
-candidateOf zs key = record { x = key / 2 ^ 20 % 4096; y = key / 256 % 4096; z = getD zs (key % 256) (pos 0); squared = key / 2 ^ 32 }
+abbrev pub squaredOf : ℕ → ℕ
+squaredOf key = key / 2 ^ 32
+
+-- what a key says, with D in place of d², and the value at its index
+unfoldable pub candidateOf : List ℤ → ℕ → Candidate
+unfolding distanceOf
+candidateOf zs key = record { x = key / 2 ^ 20 % 4096; y = key / 256 % 4096; z = getD zs (key % 256) (pos 0); distance = distanceOf (squaredOf key) }
 
 unfoldable pub Ascending : List ℕ → Type 0
 Ascending l = Pairs (λ a b. a ≤ b) l

@@ -7,18 +7,19 @@ ghost use lib.ListN.{length, take};
 ghost use mathlib.Core.Bool.{true};
 ghost use Rattle.model.specs.Lists.{All};
 ghost use Rattle.model.specs.Order.{insert};
+ghost use Rattle.model.specs.Distance.{distanceOf};
 ghost use Rattle.model.specs.Point.{Location, State, inRange};
 ghost use Rattle.point_arrays.specs.PointArrays.{HoldsPoints};
 ghost use Rattle.squares.specs.Squares.{HoldsSquares, Words};
-ghost use Rattle.candidates.specs.Keys.{keyOf, keyAt, candidateOf, Ascending, firstKeys};
+ghost use Rattle.candidates.specs.Keys.{keyOf, keyAt, squaredOf, candidateOf, Ascending, firstKeys};
 ghost use Rattle.candidates.specs.First.{listOf, HoldsFirst, InRange};
 
-// A point with its squared distance d², before it is known whether it is chosen.
+// A point with its distance D, before it is known whether it is chosen.
 pub struct Candidate {
     pub x: u16,
     pub y: u16,
     pub z: i8,
-    pub squared: u32,
+    pub distance: u32,
 }
 
 // The first `count` of `items`, in order.
@@ -27,12 +28,10 @@ pub struct Candidates {
     pub count: usize,
 }
 
-// What 1 in y, in x and in d² counts in a key.
+// What 1 in y and in x counts in a key.
 const Y_UNIT: u64 = 256;
 
 const X_UNIT: u64 = 4096 * Y_UNIT;
-
-const SQUARED_UNIT: u64 = 4096 * X_UNIT;
 
 // Where a point comes in the order as one number, so that one comparison tells which of two comes first.
 fn key_of(squared: u32, x: u16, y: u16, i: u8) -> u64
@@ -105,8 +104,28 @@ fn first_keys<'a>(
     keys
 }
 
-// What a key says, with the value at its index.
-fn candidate_of(zs: &[i8; 256], key: u64) -> Candidate
+fn squared_of(key: u64) -> u32
+    ensures { λ r. ⌜ r ≡ squaredOf key ⌝ }
+{
+    (key >> 32) as u32
+}
+
+// The squared distances that the keys say, in the first eleven places.
+fn squares_of(keys: [u64; 11]) -> [u32; 12]
+    ensures { λ r. ⌜ take 11 r ≡ map squaredOf keys ⌝ }
+{
+    let mut squares = [0u32; 12];
+    let mut j: usize = 0;
+    while j < 11 {
+        squares[j] = squared_of(keys[j]);
+        j += 1;
+    }
+    squares
+}
+
+// What a key says, with the value at its index and its distance D.
+fn candidate_of(zs: &[i8; 256], key: u64, distance: u32) -> Candidate
+    requires { ⌜ distance ≡ distanceOf (squaredOf key) ⌝ }
     ensures { λ r. ⌜ (r ≡ candidateOf (now (zs .entry)) key) × (inRange (r .z) ≡ true) ⌝ }
 {
     let i = (key % 256) as usize;
@@ -114,7 +133,7 @@ fn candidate_of(zs: &[i8; 256], key: u64) -> Candidate
         x: (key / X_UNIT % 4096) as u16,
         y: (key / Y_UNIT % 4096) as u16,
         z: zs[i],
-        squared: (key / SQUARED_UNIT) as u32,
+        distance: distance,
     }
 }
 
@@ -127,12 +146,13 @@ fn of_keys(zs: &[i8; 256], keys: [u64; 11], n: usize) -> [Candidate; 11]
         x: 0,
         y: 0,
         z: 0,
-        squared: 0,
+        distance: 0,
     };
+    let d = root::distances(squares_of(keys), n);
     let mut items = [e; 11];
     let mut j: usize = 0;
     while j < n {
-        items[j] = candidate_of(zs, keys[j]);
+        items[j] = candidate_of(zs, keys[j], d[j]);
         j += 1;
     }
     items

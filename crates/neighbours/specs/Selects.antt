@@ -6,7 +6,6 @@ use mathlib.Core.List.{map}
 use lib.ListN.{length, take}
 use Rattle.model.specs.Lists.{All}
 use Rattle.model.specs.Point.{Location, Point, State, inRange}
-use Rattle.model.specs.Distance.{distanceOf}
 use Rattle.model.specs.Choice.{Choice, ordered, within}
 use Rattle.metric.specs.declared.Viewpoint.{Viewpoint}
 use Rattle.metric.specs.From.{offsetXFrom, offsetYFrom}
@@ -33,8 +32,8 @@ pub record Selects (s : State) (p : Location) (k : Choice) (b : Candidates) (t :
   pub points : take (t .count) (ordered s p) ≡ k .points
   pub radius : t .radius ≡ k .radius
 
--- a candidate with D in place of d², and its offsets from a viewpoint
+-- a candidate with its offsets from a viewpoint
 unfoldable pub seenFrom : Viewpoint → Candidate → Neighbour
-unfolding distanceOf offsetXFrom offsetYFrom
+unfolding offsetXFrom offsetYFrom
 seenFrom v a =
-    record { x = a .x; y = a .y; z = a .z; distance = distanceOf (a .squared); dx = offsetXFrom v (a .x); dy = offsetYFrom v (a .y) }
+    record { x = a .x; y = a .y; z = a .z; distance = a .distance; dx = offsetXFrom v (a .x); dy = offsetYFrom v (a .y) }

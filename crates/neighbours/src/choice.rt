@@ -24,7 +24,7 @@ fn coincident(b: Candidates) -> bool
     }
     let items = b.items;
     let first = items[0];
-    first.squared == 0
+    first.distance == 0
 }
 
 // Rules 2 to 5, for a lookup where no point is at the location. m points are present, k of them within R0; R is D of the first point left out, or R0, or 0 where four or fewer are present.
@@ -43,7 +43,7 @@ pub(crate) fn by_count(b: Candidates, m: usize, k: u32, r0: u32) -> Selection
         let fifth = items[4];
         return Selection {
             count: 4,
-            radius: root::distance_of(fifth.squared),
+            radius: fifth.distance,
         };
     }
     if k <= 10 {
@@ -55,7 +55,7 @@ pub(crate) fn by_count(b: Candidates, m: usize, k: u32, r0: u32) -> Selection
     let eleventh = items[10];
     Selection {
         count: 10,
-        radius: root::distance_of(eleventh.squared),
+        radius: eleventh.distance,
     }
 }
 
@@ -81,12 +81,12 @@ fn seen_from(v: Viewpoint, e: Candidate) -> Neighbour
         dy: metric::offset_y(v, e.y),
         x: e.x,
         y: e.y,
-        distance: root::distance_of(e.squared),
+        distance: e.distance,
         z: e.z,
     }
 }
 
-// The first k of the nearest, with their distances and offsets.
+// The first k of the nearest, with their offsets.
 fn neighbours(v: Viewpoint, items: [Candidate; 11], k: usize) -> [Neighbour; 10]
     requires { ⌜ k ≤ 10 ⌝ }
     ensures { λ r. ⌜ take k r ≡ map (seenFrom v) (take k items) ⌝ }

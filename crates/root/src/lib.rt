@@ -1,75 +1,88 @@
-// Whole square roots, and by them a distance D, the initial radius R0 and which squared distances are within it: document 01, "Distance" and "Search radius".
+// Whole square roots one bit at a time, a distance D by them, and which squared distances are within a radius: document 01, "Distance". Nothing here divides, and no float is used: `.ci/root_code.py`.
+mod radius;
+
+pub use radius::radius_of;
 ghost use mathlib.Core.Path.{_≡_};
-ghost use Prim.Native.Nat.{ℕ, _*_, _<_, _≤_, _^_};
+ghost use Prim.Native.Nat.{ℕ, _+_, _<_, _≤_, _^_};
+ghost use mathlib.Core.List.{map};
+ghost use mathlib.Core.Bool.{cond};
 ghost use lib.Dec.{leb};
+ghost use lib.ListN.{take};
 ghost use Rattle.model.specs.Distance.{root, distanceOf};
-ghost use Rattle.model.specs.Radius.{radiusOf};
-
-// 2⁵² and its bit pattern; the bit of the sign; and about half of the bit pattern of 1.
-const TWO_52: f64 = 4503599627370496.0;
-
-const BITS_OF_TWO_52: u64 = 1075 << 52;
-
-const SIGN: u64 = 1 << 63;
-
-const HALF_OF_ONE: u64 = 2303489773699701532;
-
-// More than the error of a guess at a whole root.
-const A_LITTLE: f64 = 0.0000001;
-
-// Roots are below 2²⁵.
-const ROOTS: u64 = 1 << 25;
 
 // The greatest number of 32 bits.
 const MOST: u64 = (1 << 32) - 1;
 
-// Document 01's factor of the area, with 355/113 for π.
-const SCALE: u64 = 65536 * 7 * 113;
-
-// A number to try first: three of Newton's steps from a float that has half of n's exponent, and a little more, so that a whole root is not missed. Nothing rests on it.
-// n as a float is 2⁵² + n, by its bit pattern, less 2⁵²: a conversion would wait for the root before. The second pattern is about half of that of 1.
-fn guess(n: u64) -> u64
-    requires { ⌜ n < 2 ^ 50 ⌝ }
-    ensures { λ r. ⌜ r < 2 ^ 25 ⌝ }
+// The next bit of a root: 1 where what it takes goes into what was brought down. The two are compared as signed numbers, since plain x86-64 compares only these several at a time.
+fn bit_of(taken: u32, brought: u32) -> u32
+    requires { ⌜ (taken < 2 ^ 31) × (brought < 2 ^ 31) ⌝ }
+    ensures { λ r. ⌜ r ≡ cond (leb taken brought) 1 0 ⌝ }
 {
-    let x = f64::from_bits(BITS_OF_TWO_52 + n) - TWO_52;
-    if 0.0 <= x {
-        let a = f64::from_bits(f64::to_bits(x) % SIGN / 2 + HALF_OF_ONE);
-        let b = 0.5 * (a + x / a);
-        let c = 0.5 * (b + x / b);
-        let d = 0.5 * (c + x / c);
-        return floats::guess(d + A_LITTLE);
-    }
-    0
+    (taken as i32 <= brought as i32) as u32
 }
 
-// The greatest whole number whose square does not exceed n. A number is tried, first the guess and then the middle of what is left, until it and the next one are on either side.
-pub fn root_of(n: u64) -> u64
+// The greatest whole number whose square does not exceed n, one bit at a time, from the highest of 25 down.
+// `root` has the bits found, `rest` what the digits of n so far have beside its square, `high` and `low` the digits to come. A step brings down two of them, and the next bit is 1 where 4 root + 1 goes into the rest.
+pub fn root_of(n: u64) -> u32
     requires { ⌜ n < 2 ^ 50 ⌝ }
     ensures { λ r. ⌜ (r ≡ root n) × (r < 2 ^ 25) ⌝ }
 {
-    let mut low: u64 = 0;
-    let mut high: u64 = ROOTS;
-    let mut r = guess(n);
+    let mut high = (n >> 18) as u32;
+    let mut low = (n << 46 >> 32) as u32;
+    let mut rest: u32 = 0;
+    let mut root: u32 = 0;
+    let mut k: u32 = 0;
     let d = loop {
-        if r * r <= n {
-            if n < (r + 1) * (r + 1) {
-                break r;
-            }
-            low = r + 1;
-        } else {
-            high = r;
+        if k == 25 {
+            break root;
         }
-        r = low + (high - low) / 2;
+        let brought = 4 * rest + (high >> 30);
+        let taken = 4 * root + 1;
+        let bit = bit_of(taken, brought);
+        rest = brought - bit * taken;
+        root = 2 * root + bit;
+        high = (high << 2) + (low >> 30);
+        low = low << 2;
+        k += 1;
     };
     d
 }
 
-// D of a squared distance.
-pub fn distance_of(d2: u32) -> u32
+// D of a squared distance. The C name is for whoever examines its machine code by itself.
+#[no_mangle]
+pub extern "C" fn distance_of(d2: u32) -> u32
     ensures { λ r. ⌜ (r ≡ distanceOf d2) × (r < 2 ^ 25) ⌝ }
 {
-    root_of(65536 * (d2 as u64)) as u32
+    root_of(65536 * (d2 as u64))
+}
+
+// D of four squared distances more, side by side, where those before are known.
+fn four_more(squares: [u32; 12], known: [u32; 12], at: usize) -> [u32; 12]
+    requires { ⌜ (at ≤ 8) × (take at known ≡ map distanceOf (take at squares)) ⌝ }
+    ensures { λ r. ⌜ take (at + 4) r ≡ map distanceOf (take (at + 4) squares) ⌝ }
+{
+    let mut d = known;
+    let mut i = at;
+    while i < at + 4 {
+        d[i] = distance_of(squares[i]);
+        i += 1;
+    }
+    d
+}
+
+// D of the first n of these squared distances, four at a time: no root waits for another, nor a branch for a root.
+pub fn distances(squares: [u32; 12], n: usize) -> [u32; 12]
+    requires { ⌜ n ≤ 12 ⌝ }
+    ensures { λ r. ⌜ take n r ≡ map distanceOf (take n squares) ⌝ }
+{
+    let mut d = [0u32; 12];
+    let mut i: usize = 0;
+    while i < n {
+        let more = four_more(squares, d, i);
+        d = more;
+        i += 4;
+    }
+    d
 }
 
 // The greatest squared distance whose D does not exceed r, or 2³² - 1 where that is more.
@@ -77,17 +90,9 @@ pub fn reach_of(r: u32) -> u32
     ensures { λ k. ⌜ ((d : ℕ) → d < 2 ^ 32 → leb d k ≡ leb (distanceOf d) r) ⌝ }
 {
     let n = r as u64;
-    let k = (n * n + 2 * n) / 65536;
+    let k = (n * n + 2 * n) >> 16;
     if k < MOST {
         return k as u32;
     }
     u32::MAX
-}
-
-// R0 of an area and a number of points, with 355/113 for π.
-pub fn radius_of(area: u64, count: u64) -> u32
-    requires { ⌜ (area < 2 ^ 32) × (0 < count) × (count ≤ 256) ⌝ }
-    ensures { λ r. ⌜ (r ≡ radiusOf area count) × (r < 2 ^ 25) ⌝ }
-{
-    root_of(SCALE * area / (355 * count)) as u32
 }

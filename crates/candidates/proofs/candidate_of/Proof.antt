@@ -8,26 +8,25 @@ use mir.Val.{SFits}
 use mir.Facts.{toZ-ofZ}
 use borrow.Author.Needs.{needs}
 use Rattle.laws.proofs.ValueLaws.{byte-range}
+use Rattle.candidates.specs.Keys.{candidateOf}
 use Rattle.candidates.proofs.candidate_of.Statement.{statement}
 use Rattle.candidates.proofs.candidate_of.Tie as tie
 
-cast-t6 : tie.Need-cast-t6
-cast-t6 c = search needs
+cast-t7 : tie.Need-cast-t7
+cast-t7 c = search needs
 
-cast-t9 : tie.Need-cast-t9
-cast-t9 c = search needs
+cast-t10 : tie.Need-cast-t10
+cast-t10 c = search needs
 
-element-copy-out-t12 : tie.Need-element-copy-out-t12
-element-copy-out-t12 c = search needs
-
-cast-t14 : tie.Need-cast-t14
-cast-t14 c = search needs
+element-copy-out-t13 : tie.Need-element-copy-out-t13
+element-copy-out-t13 c = search needs
 
 returns : tie.Need-returns
+unfolding candidateOf
 returns c =
     let z = getD (c .before .args .zs .now) (c .before .args .key % 256) (pos 0) in
     let f : SFits w8 z = search needs in
-    rw (toZ-ofZ f) (refl, byte-range z (f .sfits))
+    rw (toZ-ofZ f, c .before .pre) (refl, byte-range z (f .sfits))
 
 pub candidate-of-spec : {M : Type 1} → statement M
-candidate-of-spec = tie.close (tie.spec cast-t6 cast-t9 element-copy-out-t12 cast-t14 returns)
+candidate-of-spec = tie.close (tie.spec cast-t7 cast-t10 element-copy-out-t13 returns)

@@ -10,12 +10,9 @@ mul-root-of c = search needs
 root-of-requires : tie.Need-root-of-requires
 root-of-requires c κs = search needs
 
-cast-result : tie.Need-cast-result
-cast-result c = search needs
-
 returns : tie.Need-returns
 unfolding distanceOf
 returns c = c .root-of .ensures
 
 pub distance-of-spec : {M : Type 1} → statement M
-distance-of-spec = tie.close (tie.spec mul-root-of root-of-requires cast-result returns)
+distance-of-spec = tie.close (tie.spec mul-root-of root-of-requires returns)

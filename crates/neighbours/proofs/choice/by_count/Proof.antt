@@ -11,11 +11,8 @@ returns c = (omega arith, λ s p h em er. selects-few s p _ _ h _ em (omega arit
 array-copy-out-fifth : tie.Need-array-copy-out-fifth
 array-copy-out-fifth c = search needs
 
-distance-of-requires : tie.Need-distance-of-requires
-distance-of-requires c κs = search needs
-
 returns-2 : tie.Need-returns-2
-returns-2 c = (omega arith, λ s p h em er. selects-four s p _ _ h _ _ em (omega arith) (omega arith) (c .distance-of .ensures .0))
+returns-2 c = (omega arith, λ s p h em er. selects-four s p _ _ h _ em (omega arith) (omega arith))
 
 returns-3 : tie.Need-returns-3
 returns-3 c = (omega arith, λ s p h em er. selects-within s p _ _ h _ er (omega arith) (omega arith))
@@ -23,11 +20,8 @@ returns-3 c = (omega arith, λ s p h em er. selects-within s p _ _ h _ er (omega
 array-copy-out-eleventh : tie.Need-array-copy-out-eleventh
 array-copy-out-eleventh c = search needs
 
-distance-of-requires-2 : tie.Need-distance-of-requires-2
-distance-of-requires-2 c κs = search needs
-
 returns-4 : tie.Need-returns-4
-returns-4 c = (omega arith, λ s p h em er. selects-ten s p _ _ h _ (omega arith) (c .distance-of2 .ensures .0))
+returns-4 c = (omega arith, λ s p h em er. selects-ten s p _ _ h (omega arith))
 
 pub by-count-spec : {M : Type 1} → statement M
 by-count-spec =
@@ -35,9 +29,7 @@ by-count-spec =
     (tie.spec
     returns
     array-copy-out-fifth
-    distance-of-requires
     returns-2
     returns-3
     array-copy-out-eleventh
-    distance-of-requires-2
     returns-4)

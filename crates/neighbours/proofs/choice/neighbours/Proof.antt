@@ -1,18 +1,13 @@
 -- `neighbours` meets its contract. The invariant: the first i are filled.
 use mathlib.Core.Path.{_≡_, refl}
-use Prim.Native.Nat.{ℕ, _+_, _-_, _≤_, _<_}
-use native.Mathlib.Numerals.{add-one}
+use Prim.Native.Nat.{_-_, _≤_}
 use native.Mathlib.Omega.{arith}
-use mathlib.Core.List.{List, map, map-append}
-use lib.ListN.{length, take, getD, set, length-set}
-use lib.Seq.{take-suc, take-suc-set}
+use mathlib.Core.List.{map}
+use lib.ListN.{length, take, length-set}
 use borrow.Author.Needs.{needs}
-use Rattle.metric.specs.declared.Viewpoint.{Viewpoint}
-use Rattle.candidates.specs.declared.Candidate.{Candidate}
-use Rattle.neighbours.specs.declared.Neighbour.{Neighbour}
 use Rattle.candidates.specs.First.{noCandidate}
 use Rattle.neighbours.specs.Selects.{seenFrom}
-use Rattle.laws.proofs.MapLaws.{length-under}
+use Rattle.laws.proofs.MapLaws.{length-under, map-more}
 use Rattle.neighbours.proofs.choice.neighbours.Statement.{statement}
 use Rattle.neighbours.proofs.choice.neighbours.Tie as tie
 
@@ -21,12 +16,6 @@ Inv-loop v k items a₀ i₀ a i = (i ≤ k) × (length a ≡ 10) × (take i a �
 
 abbrev μ-loop : tie.MeasureT-loop
 μ-loop v k items a₀ i₀ a i = k - i
-
--- one more is filled
-filled-more : (w : Viewpoint) (l : List Candidate) (a : List Neighbour) (i : ℕ) (v : Neighbour) → i < length l → i < length a → take i a ≡ map (seenFrom w) (take i l)
-    → v ≡ seenFrom w (getD l i noCandidate) → take (i + 1) (set a i v) ≡ map (seenFrom w) (take (i + 1) l)
-filled-more w l a i v h g was e =
-    rw (add-one, take-suc-set a i v g, take-suc l i noCandidate h, map-append, was, e)
 
 loop-holds : tie.Need-loop-holds Inv-loop μ-loop
 loop-holds c = (omega arith, refl, refl)
@@ -57,7 +46,7 @@ loop-again c =
     let b = c .before .before .before in
     let l = b .loop in
     let len : length (b .before .args .t2) ≡ 11 = search (length-under, needs) in
-    (omega arith, simp length-set (l .inv .1), filled-more (b .before .args .v) (b .before .args .t2) (l .a) (l .i) _ (omega arith) (omega arith) (l .inv .2) (c .seen-from .ensures))
+    (omega arith, simp length-set (l .inv .1), map-more (seenFrom (b .before .args .v)) (b .before .args .t2) (l .a) (l .i) noCandidate _ (omega arith) (omega arith) (l .inv .2) (c .seen-from .ensures))
 
 returns : tie.Need-returns Inv-loop μ-loop
 returns c =

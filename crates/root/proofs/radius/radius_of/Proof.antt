@@ -4,8 +4,8 @@ use native.Mathlib.Nat.{div-lt-iff-lt-mul}
 use native.Mathlib.Omega.{arith}
 use borrow.Author.Needs.{needs}
 use Rattle.model.specs.Radius.{radiusOf}
-use Rattle.root.proofs.radius_of.Statement.{statement}
-use Rattle.root.proofs.radius_of.Tie as tie
+use Rattle.root.proofs.radius.radius_of.Statement.{statement}
+use Rattle.root.proofs.radius.radius_of.Tie as tie
 
 small : (a b : ℕ) → 0 < b → a < 2 ^ 50 * b → a / b < 2 ^ 50
 small a b pos h = div-lt-iff-lt-mul pos .1 h
@@ -22,13 +22,10 @@ div-root-of c = search needs
 root-of-requires : tie.Need-root-of-requires
 root-of-requires c κs = small _ _ (omega arith) (omega arith)
 
-cast-result : tie.Need-cast-result
-cast-result c = search needs
-
 returns : tie.Need-returns
 unfolding radiusOf
 returns c = c .root-of .ensures
 
 pub radius-of-spec : {M : Type 1} → statement M
 radius-of-spec =
-    tie.close (tie.spec mul-root-of mul-root-of-2 div-root-of root-of-requires cast-result returns)
+    tie.close (tie.spec mul-root-of mul-root-of-2 div-root-of root-of-requires returns)
