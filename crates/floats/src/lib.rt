@@ -30,7 +30,7 @@ fn at_most(m: u64, y: f64) -> bool
 }
 
 // A number to try first: from 2⁵² on the last digit of y - 1/2 + 2⁵² counts 1, so that its last digits are mostly the whole part of y, which is 0 where the sum is less. Nothing rests on it.
-pub fn guess(y: f64) -> u64
+fn guess(y: f64) -> u64
     ensures { λ k. ⌜ k < 2 ^ 25 ⌝ }
 {
     let t = y - 0.5 + TWO_52;
