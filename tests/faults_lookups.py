@@ -4,6 +4,7 @@ from __future__ import annotations
 
 from collections.abc import Sequence
 from fractions import Fraction
+from math import isqrt
 
 import exact
 import exact_files
@@ -68,6 +69,24 @@ def first_n() -> None:
         return chosen[: max(within, 1)] if radius else chosen, radius
 
     exact.choose = wrong
+
+
+@fault("last bit of distance", "lookups")
+def last_bit_of_distance() -> None:
+    """D's root stops a bit early."""
+    exact.distance = lambda squared: isqrt(65_536 * squared) & ~1
+
+
+@fault("first bit of distance", "lookups")
+def first_bit_of_distance() -> None:
+    """D's root has 20 bits, one too few for the farthest points."""
+    exact.distance = lambda squared: isqrt(65_536 * squared) % 2**20
+
+
+@fault("greater square", "lookups")
+def greater_square() -> None:
+    """A bit of D is kept where its square is greater by one."""
+    exact.distance = lambda squared: isqrt(65_536 * squared + 1)
 
 
 @fault("radius by pi", "lookups")

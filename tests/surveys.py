@@ -3,6 +3,7 @@
 from __future__ import annotations
 
 from collections.abc import Callable, Iterable, Sequence
+from functools import cache
 from math import isqrt
 from random import Random
 
@@ -194,6 +195,22 @@ def thresholds(rng: Random) -> Made:
     return locations, away_from(rng, locations, distances)
 
 
+@cache
+def one_short() -> list[Offset]:
+    """Whole offsets of which 65,536 d² is one less than a square, the square of D + 1."""
+    distances = [away for turn in range(1, 24) for away in (32_768 * turn - 2, 32_768 * turn)]
+    found = [(away, dx, dy) for away in distances for dx, dy in offsets_at(away)]
+    return [(dx, dy) for away, dx, dy in found if 65_536 * (dx * dx + dy * dy) + 1 == (away + 1) ** 2]
+
+
+def roots(rng: Random) -> Made:
+    """Points at distances whose last bit a root can miss, and one at a distance with the most bits."""
+    x, y = rng.choice((0, 5, SIDE // 2)), rng.choice((0, 5, SIDE // 2))
+    offsets = [turned(rng, offset) for offset in rng.sample(one_short(), 8)]
+    locations = {(x + abs(dx), y + abs(dy)) for dx, dy in offsets} | {(x + 3, y + 4), (4095, 4095)}
+    return sorted(keep_on_domain(locations)), [(x, y)] * 3 + [(0, 0), (x + 1, y)]
+
+
 def radius_by_pi(area: int, count: int) -> int:
     return isqrt(65_536 * 7 * area * PI[1] // (PI[0] * count))
 
@@ -228,6 +245,7 @@ KINDS = (
     thresholds,
     counted,
     ring,
+    roots,
 )
 
 

@@ -39,7 +39,7 @@ FAKES = str(pathlib.Path(__file__).with_name("fakes.py"))
 SOUND_PART, FAULTY_PART = 16, 4
 SECONDS = 20
 SHORT_SECONDS = 2
-FEWEST_FAULTS = 112
+FEWEST_FAULTS = 115
 ESRI_KINDS = ("esri texts", "widest esri texts", "free lengths")
 # What each call can be refused with.
 REFUSALS = {
