@@ -51,7 +51,7 @@ pub fn root_of(n: u64) -> u32
 // D of a squared distance. The C name is for whoever examines its machine code by itself.
 #[no_mangle]
 pub extern "C" fn distance_of(d2: u32) -> u32
-    ensures { λ r. ⌜ (r ≡ distanceOf d2) × (r < 2 ^ 25) ⌝ }
+    ensures { λ r. ⌜ r ≡ distanceOf d2 ⌝ }
 {
     root_of(65536 * (d2 as u64))
 }

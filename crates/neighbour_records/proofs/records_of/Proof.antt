@@ -1,20 +1,16 @@
 -- `records_of` meets its contract. The loop's invariant: the first i are the records of the first i items.
 use mathlib.Core.Path.{_≡_, refl, sym, _∙_}
-use mathlib.Core.List.{List, map, map-map, map-append}
-use Prim.Native.Nat.{ℕ, _+_, _-_, _≤_, _<_}
-use native.Mathlib.Numerals.{add-one}
+use mathlib.Core.List.{map, map-map}
+use Prim.Native.Nat.{_-_, _≤_}
 use native.Mathlib.Omega.{arith}
-use lib.ListN.{length, take, getD, set, length-set}
-use lib.Seq.{take-suc, take-suc-set}
+use lib.ListN.{length, take, length-set}
 use borrow.Author.Needs.{needs}
 use Rattle.model.specs.Point.{Location, State}
 use Rattle.model.specs.Choice.{choice}
 use Rattle.model.specs.Answer.{neighbourOf, neighbours}
-use Rattle.laws.proofs.MapLaws.{length-under}
-use Rattle.neighbours.specs.declared.Neighbour.{Neighbour}
+use Rattle.laws.proofs.MapLaws.{length-under, map-more}
 use Rattle.neighbours.specs.declared.Chosen.{Chosen}
 use Rattle.neighbours.specs.Chose.{neighbourAt, Chose}
-use Rattle.neighbour_records.specs.declared.Record.{Record}
 use Rattle.neighbour_records.specs.Records.{recordOf, itemRecord}
 use Rattle.neighbour_records.proofs.records_of.Statement.{statement}
 use Rattle.neighbour_records.proofs.records_of.Tie as tie
@@ -24,11 +20,6 @@ Inv-loop items n few radius r₀ i₀ r i = (i ≤ n) × (length r ≡ 10) × (t
 
 abbrev μ-loop : tie.MeasureT-loop
 μ-loop items n few radius r₀ i₀ r i = n - i
-
--- one more is written
-one-more : (f : Neighbour → Record) (l : List Neighbour) (r : List Record) (i : ℕ) (a : Neighbour) (v : Record) → i < length l → i < length r
-    → take i r ≡ map f (take i l) → v ≡ f (getD l i a) → take (i + 1) (set r i v) ≡ map f (take (i + 1) l)
-one-more f l r i a v h g was e = rw (add-one i, take-suc-set r i v g, was, e, take-suc l i a h, map-append)
 
 module _ (s : State) (p : Location) (c : Chosen) (C : Chose s p c) where
   same : map (itemRecord (c .few) (c .radius)) (take (c .count) (c .items)) ≡ map recordOf (neighbours s p)
@@ -71,7 +62,7 @@ loop-again c =
     let n : length (a .items) ≡ 10 = search (length-under, needs) in (
       omega arith,
       length-set (m .loop .r) (m .loop .i) _ ∙ m .loop .inv .1,
-      one-more (itemRecord (a .few) (a .radius)) (a .items) (m .loop .r) (m .loop .i) _ _ (omega arith) (omega arith) (m .loop .inv .2) (c .item-record .ensures),
+      map-more (itemRecord (a .few) (a .radius)) (a .items) (m .loop .r) (m .loop .i) _ _ (omega arith) (omega arith) (m .loop .inv .2) (c .item-record .ensures),
     )
 
 returns : tie.Need-returns Inv-loop μ-loop

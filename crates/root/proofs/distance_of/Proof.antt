@@ -12,7 +12,7 @@ root-of-requires c κs = search needs
 
 returns : tie.Need-returns
 unfolding distanceOf
-returns c = c .root-of .ensures
+returns c = c .root-of .ensures .0
 
 pub distance-of-spec : {M : Type 1} → statement M
 distance-of-spec = tie.close (tie.spec mul-root-of root-of-requires returns)

@@ -1,11 +1,10 @@
 -- `distances` meets its contract. The invariant: the first i are known, fours of them.
 use mathlib.Core.Path.{_≡_, refl, sym, ap, _∙_}
 use mathlib.Core.List.{map}
-use Prim.Native.Nat.{_-_, _%_, _≤_}
+use Prim.Native.Nat.{_-_, _%_}
 use native.Mathlib.Omega.{arith}
 use lib.ListN.{take}
 use lib.Seq.{take-take}
-use borrow.Author.Needs.{needs}
 use Rattle.model.specs.Distance.{distanceOf}
 use Rattle.laws.proofs.MapLaws.{take-map}
 use Rattle.root.proofs.distances.Statement.{statement}

@@ -48,7 +48,7 @@ loop-again c =
     let l = c .before .before .loop in
     let s = c .before .before .before .args .t1 in
     let len : length s ≡ 12 = search needs in
-    (omega arith, simp length-set (l .inv .1), map-more distanceOf s (l .d) (l .i) 0 _ (omega arith) (omega arith) (l .inv .2) (c .distance-of .ensures .0))
+    (omega arith, simp length-set (l .inv .1), map-more distanceOf s (l .d) (l .i) 0 _ (omega arith) (omega arith) (l .inv .2) (c .distance-of .ensures))
 
 returns : tie.Need-returns Inv-loop μ-loop
 returns c =
