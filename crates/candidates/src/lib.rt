@@ -3,7 +3,7 @@ ghost use mathlib.Core.Path.{_≡_};
 ghost use mathlib.Core.List.{map};
 ghost use Prim.Native.Nat.{ℕ, _<_, _≤_, min, max};
 ghost use lib.Dec.{ltb};
-ghost use lib.ListN.{length, take};
+ghost use lib.ListN.{length, take, getD};
 ghost use mathlib.Core.Bool.{true};
 ghost use Rattle.model.specs.Lists.{All};
 ghost use Rattle.model.specs.Order.{insert};
@@ -112,7 +112,7 @@ fn squared_of(key: u64) -> u32
 
 // The squared distances that the keys say, in the first eleven places.
 fn squares_of(keys: [u64; 11]) -> [u32; 12]
-    ensures { λ r. ⌜ take 11 r ≡ map squaredOf keys ⌝ }
+    ensures { λ r. ⌜ ((i : ℕ) → i < 11 → getD r i 0 ≡ squaredOf (getD keys i 0)) ⌝ }
 {
     let mut squares = [0u32; 12];
     let mut j: usize = 0;
@@ -148,7 +148,8 @@ fn of_keys(zs: &[i8; 256], keys: [u64; 11], n: usize) -> [Candidate; 11]
         z: 0,
         distance: 0,
     };
-    let d = root::distances(squares_of(keys), n);
+    let squares = squares_of(keys);
+    let d = root::distances(&squares, n);
     let mut items = [e; 11];
     let mut j: usize = 0;
     while j < n {

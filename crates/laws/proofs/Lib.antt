@@ -2,6 +2,7 @@
 pub mod Tests
 pub mod ListLaws
 pub mod MapLaws
+pub mod FillLaws
 pub mod ThroughLaws
 pub mod Stores
 pub mod Writing

@@ -2,12 +2,10 @@
 use mathlib.Core.Path.{_≡_, refl, sym, ap, _∙_}
 use Prim.Native.Nat.{ℕ, zero, suc, _+_, _<_}
 use native.Mathlib.Nat.{le-of-suc-le-suc, not-suc-le-zero}
-use native.Mathlib.Numerals.{add-one}
 use native.Mathlib.Omega.{arith}
 use mathlib.Core.Bool.{Bool, true, false, cond}
 use mathlib.Core.List.{List, [], _∷_, _++_, map, map-append}
 use lib.ListN.{length, take, drop, getD, set, length-map}
-use lib.Seq.{take-suc, take-suc-set}
 use Rattle.model.specs.Lists.{tabulate, count}
 
 -- an array of structs is known by a map of it
@@ -44,11 +42,6 @@ module _ {A B : Type 0} (f : A → B) where
   unfolding tabulate
   map-tabulate g zero = refl
   map-tabulate g (suc n) = rw (map-append, map-tabulate g n)
-
-  -- a list that is filled with what f makes of another, one element more
-  pub map-more : (l : List A) (r : List B) (i : ℕ) (d : A) (v : B) → i < length l → i < length r → take i r ≡ map f (take i l) → v ≡ f (getD l i d)
-      → take (i + 1) (set r i v) ≡ map f (take (i + 1) l)
-  map-more l r i d v h g was e = rw (add-one i, take-suc-set r i v g, was, e, take-suc l i d h, map-append)
 
 -- two tests that agree on the elements of a list
 pub count-same : {A : Type 0} (f g : A → Bool) (l : List A) (d : A) → ((i : ℕ) → i < length l → f (getD l i d) ≡ g (getD l i d)) → count f l ≡ count g l

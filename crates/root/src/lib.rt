@@ -4,10 +4,9 @@ mod radius;
 pub use radius::radius_of;
 ghost use mathlib.Core.Path.{_≡_};
 ghost use Prim.Native.Nat.{ℕ, _+_, _<_, _≤_, _^_};
-ghost use mathlib.Core.List.{map};
 ghost use mathlib.Core.Bool.{cond};
 ghost use lib.Dec.{leb};
-ghost use lib.ListN.{take};
+ghost use lib.ListN.{getD};
 ghost use Rattle.model.specs.Distance.{root, distanceOf};
 
 // The greatest number of 32 bits.
@@ -57,9 +56,9 @@ pub extern "C" fn distance_of(d2: u32) -> u32
 }
 
 // D of four squared distances more, side by side, where those before are known.
-fn four_more(squares: [u32; 12], known: [u32; 12], at: usize) -> [u32; 12]
-    requires { ⌜ (at ≤ 8) × (take at known ≡ map distanceOf (take at squares)) ⌝ }
-    ensures { λ r. ⌜ take (at + 4) r ≡ map distanceOf (take (at + 4) squares) ⌝ }
+fn four_more(squares: &[u32; 12], known: [u32; 12], at: usize) -> [u32; 12]
+    requires { ⌜ (at ≤ 8) × ((i : ℕ) → i < at → getD known i 0 ≡ distanceOf (getD (now squares) i 0)) ⌝ }
+    ensures { λ r. ⌜ ((i : ℕ) → i < at + 4 → getD r i 0 ≡ distanceOf (getD (now (squares .entry)) i 0)) ⌝ }
 {
     let mut d = known;
     let mut i = at;
@@ -71,9 +70,9 @@ fn four_more(squares: [u32; 12], known: [u32; 12], at: usize) -> [u32; 12]
 }
 
 // D of the first n of these squared distances, four at a time: no root waits for another, nor a branch for a root.
-pub fn distances(squares: [u32; 12], n: usize) -> [u32; 12]
+pub fn distances(squares: &[u32; 12], n: usize) -> [u32; 12]
     requires { ⌜ n ≤ 12 ⌝ }
-    ensures { λ r. ⌜ take n r ≡ map distanceOf (take n squares) ⌝ }
+    ensures { λ r. ⌜ ((i : ℕ) → i < n → getD r i 0 ≡ distanceOf (getD (now (squares .entry)) i 0)) ⌝ }
 {
     let mut d = [0u32; 12];
     let mut i: usize = 0;

@@ -1,6 +1,5 @@
 -- Facts that the proofs of this crate share.
 pub mod EdgeLaws
-pub mod Filling
 pub mod WeightLaws
 pub mod Products
 pub mod RowLaws

@@ -14,7 +14,7 @@ use Rattle.neighbours.specs.declared.Chosen.{Chosen}
 use Rattle.relative_error.proofs.SumLaws.{sumF-zero, sumF-step, sumF-same}
 use Rattle.weights.specs.Seen.{itemAt, cosineGap, seen}
 use Rattle.weights.specs.Lists.{HasFactors, HasTerms}
-use Rattle.weights.proofs.Filling.{filled}
+use Rattle.laws.proofs.FillLaws.{filled}
 use Rattle.weights.proofs.Products.{cosine-gap-comm}
 
 -- how far the row of i has come at j, with own its factor, s the factors and g k the |1 - cos| of i and k: t is t₀ with own g k added at each index k
@@ -33,7 +33,7 @@ module _ (g : ℕ → Float) (own : Float) (s : List Float) where
       → x ≡ add binary64 (getD t j nan) (mul binary64 own v) → y ≡ mul binary64 (getD s j nan) v → Row g own s t₀ (set t j x) (add binary64 sum y) (j + 1)
   row-more {t₀} {t} j l r e p q = record {
     size = simp length-set (r .size);
-    added = filled (λ k. add binary64 (getD t₀ k nan) (mul binary64 own (g k))) t j l (cc (r .kept j (le-refl j))) (r .added);
+    added = filled (λ k. add binary64 (getD t₀ k nan) (mul binary64 own (g k))) t j nan l (cc (r .kept j (le-refl j))) (r .added);
     kept = λ k m. getD-set-other t j k _ nan (ne-of-gt (omega arith)) ∙ r .kept k (omega arith);
     summed = sumF-step _ j (r .summed) (q ∙ ap (mul binary64 (getD s j nan)) e);
   }
@@ -54,6 +54,6 @@ module _ (c : Chosen) where
   pub terms-more : (i : ℕ) (s : List Float) {t₀ t : List Float} {sum : Float} → i < c .count → i < length t₀ → HasFactors h s (c .count) → HasTerms h t₀ i
       → Row (λ k. cosineGap (itemAt c i) (itemAt c k)) (getD s i nan) s t₀ t sum i → HasTerms h (set t i (add binary64 sum zeroF)) (i + 1)
   terms-more i s {t₀} {t} I L f e r =
-      filled (λ k. sumF (termF h k) (i + 1)) t i (omega (arith, r .size))
+      filled (λ k. sumF (termF h k) (i + 1)) t i nan (omega (arith, r .size))
       (sumF-step (termF h i) i (r .summed ∙ sumF-same _ (termF h i) i (λ k l. other-term i k (ne-of-lt l) (f k (omega arith)) refl)) (own-term i))
       (λ k l. r .added k l ∙ sumF-step (termF h k) i (e k l) (other-term k i (ne-of-gt l) (f i I) (cosine-gap-comm (itemAt c i) (itemAt c k))))

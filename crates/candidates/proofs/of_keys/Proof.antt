@@ -1,19 +1,19 @@
 -- `of_keys` meets its contract. The invariant: the first j are filled.
-use mathlib.Core.Path.{_≡_, refl, sym, ap, _∙_}
+use mathlib.Core.Path.{_≡_, refl, ap, _∙_}
 use mathlib.Core.Bool.{true}
 use Prim.Native.Nat.{ℕ, _+_, _-_, _≤_, _<_}
 use native.Mathlib.Numerals.{add-one}
 use native.Mathlib.Omega.{arith}
 use mathlib.Core.List.{List, [], _∷_, map}
-use lib.ListN.{length, take, getD, set, length-set, length-take}
-use lib.Seq.{take-suc-set, getD-take}
+use lib.ListN.{length, take, set, length-set}
+use lib.Seq.{take-suc-set}
 use borrow.Author.Needs.{needs}
 use Rattle.model.specs.Point.{inRange}
 use Rattle.model.specs.Distance.{distanceOf}
 use Rattle.laws.proofs.ListLaws.{all-append}
-use Rattle.laws.proofs.MapLaws.{getD-map, map-more}
+use Rattle.laws.proofs.FillLaws.{map-more}
 use Rattle.candidates.specs.declared.Candidate.{Candidate}
-use Rattle.candidates.specs.Keys.{squaredOf, candidateOf}
+use Rattle.candidates.specs.Keys.{candidateOf}
 use Rattle.candidates.specs.First.{InRange}
 use Rattle.candidates.proofs.of_keys.Statement.{statement}
 use Rattle.candidates.proofs.of_keys.Tie as tie
@@ -23,19 +23,6 @@ Inv-loop zs n keys d items₀ j₀ items j = (j ≤ n) × (length items ≡ 11) 
 
 abbrev μ-loop : tie.MeasureT-loop
 μ-loop zs n keys d items₀ j₀ items j = n - j
-
--- the distance at j is that of the key at j
-distance-read : (keys squares d : List ℕ) (n j : ℕ) → length keys ≡ 11 → length squares ≡ 12 → take 11 squares ≡ map squaredOf keys
-    → take n d ≡ map distanceOf (take n squares) → n ≤ 11 → j < n → getD d j 0 ≡ distanceOf (squaredOf (getD keys j 0))
-distance-read keys squares d n j lk ls es ed few h =
-    sym (getD-take n d j 0 h)
-    ∙ ap (λ (l : List ℕ). getD l j 0) ed
-    ∙ getD-map distanceOf (take n squares) j 0 0 (omega (arith, length-take n squares))
-    ∙ ap distanceOf
-    (getD-take n squares j 0 h
-    ∙ sym (getD-take 11 squares j 0 (omega arith))
-    ∙ ap (λ (l : List ℕ). getD l j 0) es
-    ∙ getD-map squaredOf keys j 0 0 (omega arith))
 
 -- the values of one more are in range
 values-more : (l : List Candidate) (j : ℕ) (v : Candidate) → j < length l → InRange (take j l) → inRange (v .z) ≡ true → InRange (take (j + 1) (set l j v))
@@ -65,13 +52,9 @@ array-read-candidate-of-2 c = omega arith
 
 candidate-of-requires : tie.Need-candidate-of-requires Inv-loop μ-loop
 candidate-of-requires c κs =
-    let l = c .before in
-    let d = l .before in
-    let s = d .before in
-    let keys = s .before .args .t2 in
-    let lk : length keys ≡ 11 = search needs in
-    let ls : length (s .squares-of .result) ≡ 12 = search needs in
-    distance-read keys (s .squares-of .result) (d .distances .result) (s .before .args .n) (l .loop .j) lk ls (s .squares-of .ensures) (d .distances .ensures) (omega arith) (omega arith)
+    let j = c .before .loop .j in
+    let d = c .before .before in
+    d .distances .ensures j (omega arith) ∙ ap distanceOf (d .before .before .squares-of .ensures j (omega arith))
 
 mul-items : tie.Need-mul-items Inv-loop μ-loop
 mul-items c = omega arith
@@ -88,7 +71,7 @@ loop-less c = omega arith
 loop-again : tie.Need-loop-again Inv-loop μ-loop
 loop-again c =
     let l = c .before .before .loop in
-    let a = c .before .before .before .before .before .args in
+    let a = c .before .before .before .before .before .before .args in
     let r = c .candidate-of .ensures in (
       omega arith,
       simp length-set (l .inv .1),
@@ -99,7 +82,7 @@ loop-again c =
 returns : tie.Need-returns Inv-loop μ-loop
 returns c =
     let l = c .before .loop in
-    let e : l .j ≡ c .before .before .before .before .args .n = omega arith in
+    let e : l .j ≡ c .before .before .before .before .before .args .n = omega arith in
     (rw e at (l .inv .2), rw e at (l .inv .3))
 
 pub of-keys-spec : {M : Type 1} → statement M

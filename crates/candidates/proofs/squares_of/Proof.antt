@@ -1,24 +1,23 @@
 -- `squares_of` meets its contract. The invariant: the first j are filled.
-use mathlib.Core.Path.{_≡_, refl, ap, _∙_}
-use mathlib.Core.List.{map}
-use Prim.Native.Nat.{_-_, _≤_}
+use mathlib.Core.Path.{_≡_, refl}
+use Prim.Native.Nat.{ℕ, _-_, _≤_, _<_}
+use native.Mathlib.Nat.{not-suc-le-zero}
 use native.Mathlib.Omega.{arith}
-use lib.ListN.{length, take, length-set}
-use lib.Seq.{take-all}
+use lib.ListN.{length, getD, length-set}
 use borrow.Author.Needs.{needs}
-use Rattle.laws.proofs.MapLaws.{map-more}
+use Rattle.laws.proofs.FillLaws.{filled}
 use Rattle.candidates.specs.Keys.{squaredOf}
 use Rattle.candidates.proofs.squares_of.Statement.{statement}
 use Rattle.candidates.proofs.squares_of.Tie as tie
 
 abbrev Inv-loop : tie.InvT-loop
-Inv-loop keys squares₀ j₀ squares j = (j ≤ 11) × (length squares ≡ 12) × (take j squares ≡ map squaredOf (take j keys))
+Inv-loop keys squares₀ j₀ squares j = (j ≤ 11) × (length squares ≡ 12) × ((k : ℕ) → k < j → getD squares k 0 ≡ squaredOf (getD keys k 0))
 
 abbrev μ-loop : tie.MeasureT-loop
 μ-loop keys squares₀ j₀ squares j = 11 - j
 
 loop-holds : tie.Need-loop-holds Inv-loop μ-loop
-loop-holds c = (omega arith, refl, refl)
+loop-holds c = (omega arith, refl, λ k h. absurd (not-suc-le-zero h))
 
 mul-squared-of : tie.Need-mul-squared-of Inv-loop μ-loop
 mul-squared-of c = omega arith
@@ -44,17 +43,11 @@ loop-less c = omega arith
 loop-again : tie.Need-loop-again Inv-loop μ-loop
 loop-again c =
     let l = c .before .before .loop in
-    let k = c .before .before .before .args .t1 in
-    let len : length k ≡ 11 = search needs in
-    (omega arith, simp length-set (l .inv .1), map-more squaredOf k (l .squares) (l .j) 0 _ (omega arith) (omega arith) (l .inv .2) (c .squared-of .ensures))
+    let keys = c .before .before .before .args .t1 in
+    (omega arith, simp length-set (l .inv .1), filled (λ k. squaredOf (getD keys k 0)) (l .squares) (l .j) 0 (omega arith) (c .squared-of .ensures) (l .inv .2))
 
 returns : tie.Need-returns Inv-loop μ-loop
-returns c =
-    let l = c .before .loop in
-    let k = c .before .before .args .t1 in
-    let len : length k ≡ 11 = search needs in
-    let e : l .j ≡ 11 = omega arith in
-    rw e at (l .inv .2) ∙ ap (map squaredOf) (take-all 11 k (omega arith))
+returns c = λ k h. c .before .loop .inv .2 k (omega arith)
 
 pub squares-of-spec : {M : Type 1} → statement M
 squares-of-spec =

@@ -8,7 +8,8 @@ use borrow.Author.Needs.{needs}
 use Rattle.model.specs.Point.{Location, State}
 use Rattle.model.specs.Choice.{choice}
 use Rattle.model.specs.Answer.{neighbourOf, neighbours}
-use Rattle.laws.proofs.MapLaws.{length-under, map-more}
+use Rattle.laws.proofs.MapLaws.{length-under}
+use Rattle.laws.proofs.FillLaws.{map-more}
 use Rattle.neighbours.specs.declared.Chosen.{Chosen}
 use Rattle.neighbours.specs.Chose.{neighbourAt, Chose}
 use Rattle.neighbour_records.specs.Records.{recordOf, itemRecord}

@@ -1,20 +1,19 @@
 -- `four_more` meets its contract. The invariant: the first i are known.
 use mathlib.Core.Path.{_≡_}
-use mathlib.Core.List.{map}
-use Prim.Native.Nat.{_+_, _-_, _≤_}
+use Prim.Native.Nat.{ℕ, _+_, _-_, _≤_, _<_}
 use native.Mathlib.Omega.{arith}
-use lib.ListN.{length, take, length-set}
+use lib.ListN.{length, getD, length-set}
 use borrow.Author.Needs.{needs}
 use Rattle.model.specs.Distance.{distanceOf}
-use Rattle.laws.proofs.MapLaws.{map-more}
+use Rattle.laws.proofs.FillLaws.{filled}
 use Rattle.root.proofs.four_more.Statement.{statement}
 use Rattle.root.proofs.four_more.Tie as tie
 
 abbrev Inv-loop : tie.InvT-loop
-Inv-loop at squares d₀ i₀ d i = (i ≤ at + 4) × (length d ≡ 12) × (take i d ≡ map distanceOf (take i squares))
+Inv-loop squares at d₀ i₀ d i = (i ≤ at + 4) × (length d ≡ 12) × ((k : ℕ) → k < i → getD d k 0 ≡ distanceOf (getD squares k 0))
 
 abbrev μ-loop : tie.MeasureT-loop
-μ-loop at squares d₀ i₀ d i = at + 4 - i
+μ-loop squares at d₀ i₀ d i = at + 4 - i
 
 loop-holds : tie.Need-loop-holds Inv-loop μ-loop
 loop-holds c = (omega arith, search needs, c .pre .1)
@@ -25,8 +24,8 @@ add-loop c = omega arith
 mul-distance-of : tie.Need-mul-distance-of Inv-loop μ-loop
 mul-distance-of c = omega arith
 
-array-read-distance-of : tie.Need-array-read-distance-of Inv-loop μ-loop
-array-read-distance-of c = omega arith
+element-copy-out-distance-of : tie.Need-element-copy-out-distance-of Inv-loop μ-loop
+element-copy-out-distance-of c = omega arith
 
 distance-of-requires : tie.Need-distance-of-requires Inv-loop μ-loop
 distance-of-requires c κs = search needs
@@ -45,16 +44,12 @@ loop-less c = omega arith
 
 loop-again : tie.Need-loop-again Inv-loop μ-loop
 loop-again c =
-    let l = c .before .before .loop in
-    let s = c .before .before .before .args .t1 in
-    let len : length s ≡ 12 = search needs in
-    (omega arith, simp length-set (l .inv .1), map-more distanceOf s (l .d) (l .i) 0 _ (omega arith) (omega arith) (l .inv .2) (c .distance-of .ensures))
+    let l = c .before .before .before .loop in
+    let s = c .before .before .before .before .args .squares .now in
+    (omega arith, simp length-set (l .inv .1), filled (λ k. distanceOf (getD s k 0)) (l .d) (l .i) 0 (omega arith) (c .distance-of .ensures) (l .inv .2))
 
 returns : tie.Need-returns Inv-loop μ-loop
-returns c =
-    let l = c .before .loop in
-    let e : l .i ≡ c .before .before .args .at + 4 = omega arith in
-    rw e at (l .inv .2)
+returns c = λ k h. c .before .loop .inv .2 k (omega arith)
 
 pub four-more-spec : {M : Type 1} → statement M
 four-more-spec =
@@ -65,7 +60,7 @@ four-more-spec =
     loop-holds
     add-loop
     mul-distance-of
-    array-read-distance-of
+    element-copy-out-distance-of
     distance-of-requires
     mul-d
     array-write-d

@@ -11,7 +11,7 @@ use mir.Facts.{toZ-ofZ}
 use borrow.Author.Needs.{needs}
 use Rattle.model.specs.Computed.{lessenedF}
 use Rattle.weights.specs.Seen.{noNeighbour}
-use Rattle.weights.proofs.Filling.{filled}
+use Rattle.laws.proofs.FillLaws.{filled}
 use Rattle.lookup.proofs.value.lessened.Statement.{statement}
 use Rattle.lookup.proofs.value.lessened.Tie as tie
 
@@ -53,7 +53,7 @@ loop-again c =
     let g : ℕ → Float = λ k. lessenedF (toZ w8 (ofZ w8 (a .least))) (getD (a .c .items) k noNeighbour .z) in
     let f : SFits w8 (getD (a .c .items) (m .loop .i) noNeighbour .z) = search needs in
     let e : c .lessened-value .result ≡ g (m .loop .i) = rw (toZ-ofZ f) at (c .lessened-value .ensures) in
-    (omega arith, simp length-set (m .loop .inv .1), filled g (m .loop .xs) (m .loop .i) (omega arith) e (m .loop .inv .2))
+    (omega arith, simp length-set (m .loop .inv .1), filled g (m .loop .xs) (m .loop .i) nan (omega arith) e (m .loop .inv .2))
 
 returns : tie.Need-returns Inv-loop μ-loop
 returns c =

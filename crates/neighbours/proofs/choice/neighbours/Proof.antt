@@ -7,7 +7,8 @@ use lib.ListN.{length, take, length-set}
 use borrow.Author.Needs.{needs}
 use Rattle.candidates.specs.First.{noCandidate}
 use Rattle.neighbours.specs.Selects.{seenFrom}
-use Rattle.laws.proofs.MapLaws.{length-under, map-more}
+use Rattle.laws.proofs.MapLaws.{length-under}
+use Rattle.laws.proofs.FillLaws.{map-more}
 use Rattle.neighbours.proofs.choice.neighbours.Statement.{statement}
 use Rattle.neighbours.proofs.choice.neighbours.Tie as tie
 

@@ -8,7 +8,7 @@ use lib.Ieee.{nan}
 use borrow.Author.Needs.{needs}
 use Rattle.model.specs.Computed.{productF, factorF}
 use Rattle.weights.specs.Seen.{seen}
-use Rattle.weights.proofs.Filling.{filled}
+use Rattle.laws.proofs.FillLaws.{filled}
 use Rattle.weights.proofs.WeightLaws.{weight-is}
 use Rattle.relative_error.proofs.SumLaws.{sumF-same}
 use Rattle.weights.proofs.directional.weights_apart.Statement.{statement}
@@ -64,7 +64,7 @@ loop-less c = omega arith
 loop-again : tie.Need-loop-again Inv-loop μ-loop
 loop-again c =
     let m = c .before .before in
-    (omega arith, simp length-set (m .loop .inv .1), filled _ (m .loop .w) (m .loop .i) (omega arith) (c .weight .ensures) (m .loop .inv .2))
+    (omega arith, simp length-set (m .loop .inv .1), filled _ (m .loop .w) (m .loop .i) nan (omega arith) (c .weight .ensures) (m .loop .inv .2))
 
 returns : tie.Need-returns Inv-loop μ-loop
 unfolding seen

@@ -10,7 +10,7 @@ use Rattle.model.specs.Influence.{influenceAt}
 use Rattle.model.specs.Computed.{factorF}
 use Rattle.weights.specs.Seen.{seen, noNeighbour}
 use Rattle.influence.proofs.InfluenceLaws.{factor-read}
-use Rattle.weights.proofs.Filling.{filled}
+use Rattle.laws.proofs.FillLaws.{filled}
 use Rattle.weights.proofs.factor.factors.Statement.{statement}
 use Rattle.weights.proofs.factor.factors.Tie as tie
 
@@ -56,7 +56,7 @@ loop-again c =
     let e : c .factor-of .result ≡ g (m .loop .i) = factor-read (influenceAt (a .few) (a .radius) (getD (a .items) (m .loop .i) noNeighbour .distance)) (c .factor-of .ensures) (c .before .influence-at .ensures) in (
       omega arith,
       simp length-set (m .loop .inv .1),
-      filled g (m .loop .s) (m .loop .i) (omega arith) e (m .loop .inv .2),
+      filled g (m .loop .s) (m .loop .i) nan (omega arith) e (m .loop .inv .2),
     )
 
 returns : tie.Need-returns Inv-loop μ-loop
