@@ -69,7 +69,7 @@ fn four_more(squares: &[u32; 12], known: [u32; 12], at: usize) -> [u32; 12]
     d
 }
 
-// D of the first n of these squared distances, four at a time: no root waits for another, nor a branch for a root.
+// D of the first n of these squared distances, four at a time: no root waits for another, nor a branch for a root. What stands behind them is free.
 pub fn distances(squares: &[u32; 12], n: usize) -> [u32; 12]
     requires { ⌜ n ≤ 12 ⌝ }
     ensures { λ r. ⌜ ((i : ℕ) → i < n → getD r i 0 ≡ distanceOf (getD (now (squares .entry)) i 0)) ⌝ }
