@@ -5,19 +5,19 @@ pub use radius::radius_of;
 ghost use mathlib.Core.Path.{_≡_};
 ghost use Prim.Native.Nat.{ℕ, _+_, _<_, _≤_, _^_};
 ghost use mathlib.Core.Bool.{cond};
-ghost use lib.Dec.{leb};
+ghost use lib.Dec.{leb, ltb};
 ghost use lib.ListN.{getD};
 ghost use Rattle.model.specs.Distance.{root, distanceOf};
 
 // The greatest number of 32 bits.
 const MOST: u64 = (1 << 32) - 1;
 
-// The next bit of a root: 1 where what it takes goes into what was brought down. The two are compared as signed numbers, since plain x86-64 compares only these several at a time.
-fn bit_of(taken: u32, brought: u32) -> u32
-    requires { ⌜ (taken < 2 ^ 31) × (brought < 2 ^ 31) ⌝ }
-    ensures { λ r. ⌜ r ≡ cond (leb taken brought) 1 0 ⌝ }
+// The next bit of a root: 1 where 4 root is less than what was brought down, so that 4 root + 1 goes into it. The two are compared as signed numbers, since plain x86-64 compares only these several at a time.
+fn bit_of(four: u32, brought: u32) -> u32
+    requires { ⌜ (four < 2 ^ 31) × (brought < 2 ^ 31) ⌝ }
+    ensures { λ r. ⌜ r ≡ cond (ltb four brought) 1 0 ⌝ }
 {
-    (taken as i32 <= brought as i32) as u32
+    ((four as i32) < brought as i32) as u32
 }
 
 // The greatest whole number whose square does not exceed n, one bit at a time, from the highest of 25 down.
@@ -36,8 +36,9 @@ pub fn root_of(n: u64) -> u32
             break root;
         }
         let brought = 4 * rest + (high >> 30);
-        let taken = 4 * root + 1;
-        let bit = bit_of(taken, brought);
+        let four = 4 * root;
+        let taken = four + 1;
+        let bit = bit_of(four, brought);
         rest = brought - bit * taken;
         root = 2 * root + bit;
         high = (high << 2) + (low >> 30);

@@ -2,7 +2,7 @@
 use mathlib.Core.Path.{_≡_, refl}
 use mathlib.Core.Bool.{Bool, true, false, cond}
 use Prim.Native.Nat.{ℕ}
-use lib.Dec.{leb}
+use lib.Dec.{ltb}
 use mir.Syntax.{w32}
 use mir.Val.{boolByte}
 use mir.Facts.{toZ-pos}
@@ -24,7 +24,7 @@ cast-result-3 : tie.Need-cast-result-3
 cast-result-3 c = search needs
 
 returns : tie.Need-returns
-returns c = rw (toZ-pos w32 (c .pre .0), toZ-pos w32 (c .pre .1)) (byte-cond (leb (c .args .taken) (c .args .brought)))
+returns c = rw (toZ-pos w32 (c .pre .0), toZ-pos w32 (c .pre .1)) (byte-cond (ltb (c .args .four) (c .args .brought)))
 
 pub bit-of-spec : {M : Type 1} → statement M
 bit-of-spec = tie.close (tie.spec cast-result cast-result-2 cast-result-3 returns)

@@ -3,10 +3,10 @@ use mathlib.Core.Path.{_≡_, refl, sym, ap, subst}
 use mathlib.Core.Bool.{Bool, true, false, cond}
 use Prim.Native.Nat.{ℕ, _+_, _-_, _*_, _/_, _%_, _^_, _≤_, _<_}
 use native.Mathlib.Omega.{arith}
-use lib.Dec.{leb}
+use lib.Dec.{ltb}
 use lib.Pow.{pow-add, pow-mono}
 use borrow.Author.Needs.{needs}
-use borrow.Author.Tests.{leb-true, leb-false}
+use borrow.Author.Tests.{ltb-true, ltb-false}
 use Rattle.model.specs.Distance.{IsRoot}
 use Rattle.laws.proofs.RootLaws.{is-root}
 use Rattle.root.proofs.root_of.Statement.{statement}
@@ -38,15 +38,15 @@ module _ (n high low rest root k : ℕ) (f : Found n high low rest root k) where
     within : bit * taken root ≤ brought high rest
     leaves : brought high rest - bit * taken root ≤ 2 * (2 * root + bit)
 
-  goes : (bit : ℕ) → bit ≡ cond (leb (taken root) (brought high rest)) 1 0 → Goes bit
-  goes bit e = subst Goes (sym e) (go (leb (taken root) (brought high rest)) refl)
+  goes : (bit : ℕ) → bit ≡ cond (ltb (4 * root) (brought high rest)) 1 0 → Goes bit
+  goes bit e = subst Goes (sym e) (go (ltb (4 * root) (brought high rest)) refl)
     where
-      go : (t : Bool) → leb (taken root) (brought high rest) ≡ t → Goes (cond t 1 0)
+      go : (t : Bool) → ltb (4 * root) (brought high rest) ≡ t → Goes (cond t 1 0)
       go true e =
-          let h : taken root ≤ brought high rest = leb-true _ _ e in
+          let h : 4 * root < brought high rest = ltb-true _ _ e in
           record { one = omega arith; square = refl; within = omega arith; leaves = omega arith }
       go false e =
-          let h : brought high rest < taken root = leb-false _ _ e in
+          let h : brought high rest ≤ 4 * root = ltb-false _ _ e in
           record { one = omega arith; square = refl; within = omega arith; leaves = omega arith }
 
   -- one bit more
@@ -97,8 +97,8 @@ mul-brought c = omega (arith, few c)
 add-brought : tie.Need-add-brought Inv-loop μ-loop
 add-brought c = omega (arith, few c)
 
-mul-taken : tie.Need-mul-taken Inv-loop μ-loop
-mul-taken c = omega (arith, few c)
+mul-four : tie.Need-mul-four Inv-loop μ-loop
+mul-four c = omega (arith, few c)
 
 add-taken : tie.Need-add-taken Inv-loop μ-loop
 add-taken c = omega (arith, few c)
@@ -146,7 +146,7 @@ root-of-spec =
     loop-holds
     mul-brought
     add-brought
-    mul-taken
+    mul-four
     add-taken
     bit-of-requires
     mul-rest
