@@ -209,6 +209,9 @@ def make_points(rng: Random, count: int) -> list[exact.Point]:
 
 def count_lookups(program: mir.Program, count: int) -> list[Counts]:
     """What each lookup in surveys of so many points takes."""
+    for name in (ROOTS, DISTANCE):
+        if name not in program.functions:
+            raise Wrong(f"the program has no {name}")
     counted = []
     for seed in range(SURVEYS):
         rng, meter = Random(seed), Meter(program)

@@ -73,20 +73,20 @@ def first_n() -> None:
 
 @fault("last bit of distance", "lookups")
 def last_bit_of_distance() -> None:
-    """D's root stops a bit early."""
+    """The last bit of D is lost."""
     exact.distance = lambda squared: isqrt(65_536 * squared) & ~1
 
 
 @fault("first bit of distance", "lookups")
 def first_bit_of_distance() -> None:
-    """D's root has 20 bits, one too few for the farthest points."""
+    """The first bit of D is lost where it has 21, as of the farthest points."""
     exact.distance = lambda squared: isqrt(65_536 * squared) % 2**20
 
 
 @fault("greater square", "lookups")
 def greater_square() -> None:
     """A bit of D is kept where its square is greater by one."""
-    exact.distance = lambda squared: isqrt(65_536 * squared + 1)
+    exact.distance = lambda squared: isqrt(65_536 * squared + (squared > 0))
 
 
 @fault("radius by pi", "lookups")

@@ -207,8 +207,9 @@ def roots(rng: Random) -> Made:
     """Points at distances whose last bit a root can miss, and one at a distance with the most bits."""
     x, y = rng.choice((0, 5, SIDE // 2)), rng.choice((0, 5, SIDE // 2))
     offsets = [turned(rng, offset) for offset in rng.sample(one_short(), 8)]
-    locations = {(x + abs(dx), y + abs(dy)) for dx, dy in offsets} | {(x + 3, y + 4), (4095, 4095)}
-    return sorted(keep_on_domain(locations)), [(x, y)] * 3 + [(0, 0), (x + 1, y)]
+    locations = sorted(keep_on_domain({(x + abs(dx), y + abs(dy)) for dx, dy in offsets} | {(x + 3, y + 4)}))
+    kept = rng.sample(locations, min(len(locations), rng.choice((3, 3, 10))))
+    return sorted({*kept, (4095, 4095)}), [(x, y)] * 3 + [(0, 0), (x + 1, y)]
 
 
 def radius_by_pi(area: int, count: int) -> int:

@@ -456,14 +456,18 @@ REPLY = f'(tyStruct "Reply" {types(U8, UNIT)})'
 
 
 def survey_program(*reply: str) -> str:
-    """A survey that holds nothing, and answers each lookup so."""
+    """A survey that holds nothing, and answers each lookup so, after one D."""
     functions = [
+        function("root::distance_of", 1, [U32, U32], assign(0, op2("(shr unsigned)", copy(1), number(1)))),
+        function("root::distances", 1, [U32, U32], call("root::distance_of", [copy(1)], 0)),
         function("survey::fresh", 0, [UNIT], assign(0, given("unit"))),
         function("survey::load", 2, [REPLY, UNIT, SLICE], assign(0, aggregate(number(0, 8), copy(1)))),
         function(
             "survey::lookup",
             3,
-            [ANSWER, UNIT, U32, U32],
+            [ANSWER, UNIT, U32, U32, U32],
+            assign(4, op2("(add unsigned)", copy(2), copy(3))),
+            call("root::distances", [copy(4)], 4),
             assign(0, aggregate(*reply)),
             declared=items(f'(pair "Answer" (variants {FOUND}))'),
         ),
@@ -487,7 +491,23 @@ class Answers(unittest.TestCase):
     def test_right_answers(self) -> None:
         status, text = self.printed(answering(-512, 1, 0))
         self.assertEqual(status, 0)
-        self.assertEqual(text.count("\n"), len(COUNTING.LINES) + 1)
+        rows = {line[:52].strip(): line[52:].split() for line in text.splitlines()}
+        self.assertEqual(len(rows), len(COUNTING.LINES) + 1)
+        self.assertIn("a lookup, 1 points, 32 lookups", rows)
+        self.assertEqual(rows[ADDITIONS], ["1.0", "1", "1", "0.0"])
+        self.assertEqual(rows["shifts"], ["1.0", "1", "1", "1.0"])
+        self.assertEqual(rows["calls"], ["2.0", "2", "2", "1.0"])
+        self.assertEqual(rows["D's worked out"], ["1.0", "1", "1", "1.0"])
+
+    def test_no_roots(self) -> None:
+        for name in ("root::distances", "root::distance_of"):
+            status, text = self.printed(answering(-512, 1, 0).replace(f'"{name}"', '"root::other"'))
+            self.assertEqual((status, text), (1, f"the program has no {name}\n"))
+
+    def test_locations_differ(self) -> None:
+        with mock.patch.object(COUNTING, "look_up", wraps=COUNTING.look_up) as looked_up:
+            self.printed(answering(-512, 1, 0))
+        self.assertGreater(len({each.args[2] for each in looked_up.call_args_list}), 20)
 
     def test_wrong_answers(self) -> None:
         for answer in ((-511, 1, 0), (512, 1, 0), (-512, 2, 0), (-512, 1, 3)):
