@@ -144,6 +144,7 @@ def example_journal(rng: Random, index: int) -> list[Call]:
     for points, location in EXAMPLES:
         calls += [Call("a", point) for point in rng.sample(points, len(points))]
         calls += with_ends([Call("q", location), Call("n", (*location, 10)), Call("k")])
+    calls += with_ends([Call(letter, (0, 0, 1, 1, 1, 1, 200)) for letter in "gfp"])
     calls += [Call("n", (0, 0, 9)), Call("n", (4096, 0, 0)), Call("w", (11,)), Call("w", (12,))]
     calls += [Call("a", point) for point in ((4095, 0, 127), (4096, 0, 127), (0, 4096, 128))]
     calls += [Call("a", (1, 1, z)) for z in (128, -129, -128)]
