@@ -24,7 +24,7 @@ root-le {n} {m} {r} {s} h k le =
     let g : r < s + 1 = lt-of-sq-lt r (s + 1) (lt-of-le-of-lt (h .low) (lt-of-le-of-lt le (k .high))) in
     omega arith
 
-pub root-unique : {n r s : ℕ} → IsRoot n r → IsRoot n s → r ≡ s
+root-unique : {n r s : ℕ} → IsRoot n r → IsRoot n s → r ≡ s
 root-unique h k = le-antisymm (root-le h k (omega arith)) (root-le k h (omega arith))
 
 step : (n r : ℕ) (t : Bool) → leb ((2 * r + 1) * (2 * r + 1)) n ≡ t → IsRoot (n / 4) r → IsRoot n (cond t (2 * r + 1) (2 * r))
@@ -39,7 +39,7 @@ step n r false e h =
     let u : n / 4 < (r + 1) * (r + 1) = h .high in
     record { low = omega arith; high = g }
 
-pub rootStep-is : (n r : ℕ) → IsRoot (n / 4) r → IsRoot n (rootStep n r)
+rootStep-is : (n r : ℕ) → IsRoot (n / 4) r → IsRoot n (rootStep n r)
 unfolding rootStep
 rootStep-is n r h = step n r (leb ((2 * r + 1) * (2 * r + 1)) n) refl h
 
@@ -62,10 +62,10 @@ pub is-root : {n r : ℕ} → IsRoot n r → r ≡ root n
 is-root {n} h = root-unique h (root-is n)
 
 -- to compare a root with a bound takes no root
-pub root-above : (n r : ℕ) → r * r ≤ n → r ≤ root n
+root-above : (n r : ℕ) → r * r ≤ n → r ≤ root n
 root-above n r h = let g : r < root n + 1 = lt-of-sq-lt r (root n + 1) (lt-of-le-of-lt h (root-is n .high)) in omega arith
 
-pub root-below : (n r : ℕ) → n < r * r → root n < r
+root-below : (n r : ℕ) → n < r * r → root n < r
 root-below n r h = lt-of-sq-lt (root n) r (lt-of-le-of-lt (root-is n .low) h)
 
 pub root-le-iff : (n b : ℕ) → (root n ≤ b) ↔ (n < (b + 1) * (b + 1))
@@ -87,10 +87,10 @@ distance-pos n h = elim (decLe 1 (distanceOf n)) [
 ]
 
 -- the root of a quotient: the greatest r with r² * b ≤ a
-pub root-quotient-low : (a b : ℕ) → 0 < b → root (a / b) * root (a / b) * b ≤ a
+root-quotient-low : (a b : ℕ) → 0 < b → root (a / b) * root (a / b) * b ≤ a
 root-quotient-low a b pos = le-div-iff-mul-le pos .0 (root-is (a / b) .low)
 
-pub root-quotient-high : (a b r : ℕ) → 0 < b → r * r * b ≤ a → r ≤ root (a / b)
+root-quotient-high : (a b r : ℕ) → 0 < b → r * r * b ≤ a → r ≤ root (a / b)
 root-quotient-high a b r pos h = root-above (a / b) r (le-div-iff-mul-le pos .1 h)
 
 -- R0 as document 01 has it

@@ -10,7 +10,6 @@ use borrow.Author.Tests.{leb-true, leb-false, not-true, not-false}
 use lib.Dec.{leb}
 use lib.Ieee.{Float}
 use lib.Ieee.Positive.{num, den}
-use Rattle.floats.proofs.Search.{Narrower}
 use Rattle.floats.proofs.whole_part.Statement.{statement}
 use Rattle.floats.proofs.whole_part.Tie as tie
 use Rattle.floats.proofs.whole_part.Reads as reads
@@ -39,6 +38,10 @@ module _ (y : Float) (small : num y < 4194304 * den y) where
 
   whole-below : (k : ℕ) → leb (k * den y) (num y) ≡ false → whole y < k
   whole-below k e = div-lt-iff-lt-mul some .1 (leb-false _ _ e)
+
+-- what is left between the two ends once a number was tried that is not q
+abbrev Narrower : ℕ → ℕ → ℕ → ℕ → ℕ → Type 0
+Narrower q low high low' high' = (low' ≤ q) × (q < high') × (high' ≤ high) × (high' - low' < high - low)
 
 narrowed : (c : lts.After-row-known2 (guess-reads.Asked, guess-reads.Learnt, at-most-reads.Asked, at-most-reads.Learnt) reads.Pre reads.Post Inv-loop μ-loop)
     → Narrower (whole (c .before .before .before .before .before .before .args .y)) (c .before .before .before .before .loop .low) (c .before .before .before .before .loop .high)

@@ -1,2 +1,0 @@
--- Facts that the proofs of this crate share.
-pub mod Search
