@@ -3,7 +3,7 @@
 use mathlib.Core.Path.{_≡_, refl, ap}
 use mathlib.Core.Logic.{_⊎_, inl, inr, ⊎-swap}
 use Prim.Native.Nat.{ℕ, _-_, _*_, _/_, _^_, _≤_, _<_, min, max}
-use native.Mathlib.Nat.{not-suc-le-zero, le-refl, mul-le-mul, le-div-iff-mul-le}
+use native.Mathlib.Nat.{not-suc-le-zero, le-refl, le-of-mul-le-mul-right, le-div-iff-mul-le}
 use native.Mathlib.Omega.{arith, min-cases, max-cases}
 use mathlib.Core.Bool.{Bool, true, false, cond}
 use mathlib.Core.List.{List, [], _∷_, map}
@@ -11,15 +11,17 @@ use lib.IntN.{ℤ, pos}
 use lib.ListN.{length, length-map}
 use lib.Signed.{leZ, _≤ℤ_}
 use Rattle.model.specs.Lists.{All, Some, through}
-use Rattle.model.specs.Point.{Point, Contents, Extent, at}
+use Rattle.model.specs.Point.{Location, Point, Contents, Extent, location, at}
 use Rattle.model.specs.Distance.{rootIn, root}
-use Rattle.model.specs.Radius.{xs, ys, area, radiusOf, initialRadius}
-use Rattle.model.specs.Extent.{lesser, greater, valuesBy, zeros, extentOf, IsExtent, Shrinks}
+use Rattle.model.specs.Polygon.{enclosed}
+use Rattle.model.specs.Radius.{locations, twiceArea, radiusOf, initialRadius}
+use Rattle.model.specs.Extent.{xs, ys, lesser, greater, valuesBy, zeros, extentOf, IsExtent, Shrinks}
 use Rattle.model.specs.Calls.{Drop, remove, refusal, accepted, after}
 use Rattle.model.specs.Invariant.{Invariant}
-use Rattle.laws.proofs.ListLaws.{all-imp, all-both, all-map, all-of-map}
+use Rattle.laws.proofs.ListLaws.{all-imp, all-both, all-among, all-map, all-of-map}
 use Rattle.laws.proofs.ThroughLaws.{through-keeps, through-keeps-some, through-all, through-some}
 use Rattle.laws.proofs.ValueLaws.{least-all, greatest-all}
+use Rattle.laws.proofs.AreaBound.{enclosed-most}
 use Rattle.laws.proofs.RootLaws.{root-le-iff, radius-is}
 use Rattle.laws.proofs.ChosenLaws.{Inside, apart-points}
 use Rattle.laws.proofs.CallLaws.{after-accepted}
@@ -27,7 +29,7 @@ use Rattle.laws.proofs.HistoryInvariant.{all-remove}
 use Rattle.laws.proofs.DropLaws.{removed-free, removed-one}
 
 pub ends-none : (q : Contents) → q .points ≡ [] → extentOf q ≡ zeros
-unfolding extentOf initialRadius area radiusOf root rootIn through valuesBy
+unfolding extentOf initialRadius twiceArea radiusOf root rootIn through valuesBy
 ends-none q e = rw e
 
 -- min and max, lesser and greater give one of the two
@@ -81,31 +83,35 @@ module _ (q : Contents) (some : 0 < length (q .points)) where
     greatest-y = some-map (λ a. a .y) _ l (through-some 0 max max-either (ys q) (some-of (λ a. a .y)));
     least-z = some-map (λ a. a .z) _ l (through-some (pos 0) lesser (λ a b. cond-either (leZ a b) a b) (map (λ a. a .z) l) (some-of (λ a. a .z)));
     greatest-z = some-map (λ a. a .z) _ l (through-some (pos 0) greater (λ a b. ⊎-swap (cond-either (leZ a b) b a)) (map (λ a. a .z) l) (some-of (λ a. a .z)));
-    radius = radius-is (area q) (length l) some;
+    radius = radius-is (twiceArea q) (length l) some;
   }
 
--- R0 in the domain
-below : (k m a : ℕ) → 355 ≤ m → k * m ≤ 65536 * 7 * 113 * a → a ≤ 16769025 → k < 16777217 * 16777217
-below k m a h g l = let e : k * 355 ≤ k * m = mul-le-mul (le-refl k) h in omega arith
+-- R0 in the domain, where each point more encloses at most twice the domain's area
+below : (k n a : ℕ) → 0 < n → k * (355 * n * 2) ≤ 65536 * 7 * 113 * a → a ≤ n * 33538050 → k < 16777217 * 16777217
+below k n a h g l =
+    let e : k * (355 * n * 2) ≤ 2448702000000 * (355 * n * 2) = omega arith in
+    let m : k ≤ 2448702000000 = le-of-mul-le-mul-right e (omega arith) in
+    omega arith
 
-radius-most : (a n : ℕ) → 0 < n → a ≤ 16769025 → radiusOf a n ≤ 2 ^ 24
+radius-most : (a n : ℕ) → 0 < n → a ≤ n * 33538050 → radiusOf a n ≤ 2 ^ 24
 unfolding radiusOf
 radius-most a n h k =
-    let q = 65536 * 7 * 113 * a / (355 * n) in
-    let m : 0 < 355 * n = omega arith in
-    root-le-iff q (2 ^ 24) .1 (below q (355 * n) a (omega arith) (le-div-iff-mul-le m .0 (le-refl q)) k)
+    let q = 65536 * 7 * 113 * a / (355 * n * 2) in
+    let m : 0 < 355 * n * 2 = omega arith in
+    root-le-iff q (2 ^ 24) .1 (below q n a h (le-div-iff-mul-le m .0 (le-refl q)) k)
 
 pub max-most : (f : Point → ℕ) (l : List Point) → All (λ a. f a ≤ 4095) l → through 0 max (map f l) ≤ 4095
 max-most f l h = through-keeps 0 max (λ n. n ≤ 4095) (λ a b g k. omega arith) (map f l) (omega arith) (all-map (λ n. n ≤ 4095) f l h)
 
-area-most : (q : Contents) → All Inside (q .points) → area q ≤ 16769025
-unfolding area
-area-most q inside =
-    let x = max-most (λ a. a .x) (q .points) (all-imp Inside (λ a. a .x ≤ 4095) (λ a h. omega (arith, h .0)) (q .points) inside) in
-    let y = max-most (λ a. a .y) (q .points) (all-imp Inside (λ a. a .y ≤ 4095) (λ a h. omega (arith, h .1)) (q .points) inside) in
-    let u : through 0 max (xs q) - through 0 min (xs q) ≤ 4095 = omega arith in
-    let v : through 0 max (ys q) - through 0 min (ys q) ≤ 4095 = omega arith in
-    mul-le-mul u v
+-- the points enclose no more, in any order
+pub twice-most : (q : Contents) → All Inside (q .points) → twiceArea q ≤ length (q .points) * 33538050
+unfolding twiceArea
+twice-most q inside =
+    let k =
+        enclosed-most 4095 (locations (q .points))
+        (all-among (λ b. (b .x ≤ 4095) × (b .y ≤ 4095)) (locations (q .points))
+        (all-map _ _ (q .points) (all-imp Inside _ (λ a h. (omega (arith, h .0), omega (arith, h .1))) (q .points) inside))) in
+    omega (arith, k, length-map (q .points) (λ (a : Point). location (a .x) (a .y)))
 
 pub kept-most : (q : Contents) → All Inside (q .points) → extentOf q .radius ≤ 2 ^ 24
 unfolding extentOf initialRadius
@@ -113,7 +119,7 @@ kept-most q inside = go (q .points) refl
   where
     go : (l : List Point) → q .points ≡ l → extentOf q .radius ≤ 2 ^ 24
     go [] e = let z : initialRadius q ≡ 0 = ap (λ (e : Extent). e .radius) (ends-none q e) in omega arith
-    go (a ∷ l) e = radius-most (area q) (length (q .points)) (rw e (omega arith)) (area-most q inside)
+    go (a ∷ l) e = radius-most (twiceArea q) (length (q .points)) (rw e (omega arith)) (twice-most q inside)
 
 -- a drop, accepted, of one point of more
 module _ (x y : ℕ) (q : Contents) (ordered : Invariant (q .points)) (yes : refusal (Drop x y) q ≡ 0) (more : 1 < length (q .points)) where

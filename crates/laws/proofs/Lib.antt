@@ -12,6 +12,14 @@ pub mod DiffLaws
 pub mod ValueLaws
 pub mod RootLaws
 pub mod PrecedesLaws
+pub mod ChainLaws
+pub mod SideLaws
+pub mod RingLaws
+pub mod AreaLaws
+pub mod FlatLaws
+pub mod ConvexLaws
+pub mod AreaBound
+pub mod BoxLaws
 pub mod OrderLaws
 pub mod SortLaws
 pub mod PartLaws

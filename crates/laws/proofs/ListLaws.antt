@@ -1,5 +1,6 @@
 -- Laws of the words that specs/Lists has: facts of every element, carried over, joined, and of parts; tables; a map to lists, joined and by the element; and the part from an index to the end.
-use mathlib.Core.Path.{_≡_, refl}
+use mathlib.Core.Path.{_≡_, refl, sym, subst}
+use mathlib.Core.Logic.{inl, inr}
 use Prim.Native.Nat.{ℕ, zero, suc, _+_, _-_, _*_, _<_}
 use native.Mathlib.Nat.{mul-zero, mul-suc}
 use native.Mathlib.Numerals.{add-one}
@@ -7,7 +8,7 @@ use native.Mathlib.Omega.{arith}
 use mathlib.Core.List.{List, [], _∷_, _++_, map, flatMap, append-assoc, append-nil}
 use lib.ListN.{length, take, drop, getD, length-append, length-drop}
 use lib.Seq.{take-suc, take-all}
-use Rattle.model.specs.Lists.{tabulate, All, Pairs, Bytes}
+use Rattle.model.specs.Lists.{tabulate, All, Among, Pairs, Bytes}
 
 module _ {A : Type 0} where
   pub all-imp : (P Q : A → Type 0) → ((a : A) → P a → Q a) → (l : List A) → All P l → All Q l
@@ -41,6 +42,11 @@ module _ {A : Type 0} where
   all-below P [] i d h k = absurd (omega arith)
   all-below P (a ∷ l) zero d h k = h .0
   all-below P (a ∷ l) (suc i) d h k = all-below P l i d (h .1) (omega arith)
+
+  pub all-among : (P : A → Type 0) (l : List A) → All P l → (q : A) → Among q l → P q
+  all-among P [] h q m = absurd m
+  all-among P (a ∷ l) h q (inl e) = subst (λ (z : A). P z) (sym e) (h .0)
+  all-among P (a ∷ l) h q (inr m) = all-among P l (h .1) q m
 
   pub all-append : (P : A → Type 0) (l m : List A) → All P l → All P m → All P (l ++ m)
   all-append P [] m h g = g

@@ -93,12 +93,12 @@ root-quotient-low a b pos = le-div-iff-mul-le pos .0 (root-is (a / b) .low)
 root-quotient-high : (a b r : ℕ) → 0 < b → r * r * b ≤ a → r ≤ root (a / b)
 root-quotient-high a b r pos h = root-above (a / b) r (le-div-iff-mul-le pos .1 h)
 
--- R0 as document 01 has it
+-- R0 as the documents have it
 pub radius-is : (a n : ℕ) → 0 < n → IsRadius a n (radiusOf a n)
 unfolding radiusOf
 radius-is a n pos =
-    let q = root-quotient-low (65536 * 7 * 113 * a) (355 * n) (omega arith) in
+    let q = root-quotient-low (65536 * 7 * 113 * a) (355 * n * 2) (omega arith) in
     record {
       fits = omega arith;
-      greatest = λ s h. root-quotient-high (65536 * 7 * 113 * a) (355 * n) s (omega arith) (omega arith);
+      greatest = λ s h. root-quotient-high (65536 * 7 * 113 * a) (355 * n * 2) s (omega arith) (omega arith);
     }

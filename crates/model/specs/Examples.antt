@@ -1,5 +1,5 @@
 -- Closed cases that hold the definitions to documents 01 and 02: the starred rows of the bench table, `closed-rows`; rows of our own that these cannot replace,
--- `further`, `calls`, `kept`, `lent`, `files`, `refusals`, `grids`, `readings`, `decimals`, `decimals-read`, `cell-texts` and `texts`; and the whole case, as a grid file and as an Esri ASCII grid.
+-- `further`, `polygons`, `calls`, `kept`, `lent`, `files`, `refusals`, `grids`, `readings`, `decimals`, `decimals-read`, `cell-texts` and `texts`; and the whole case, as a grid file and as an Esri ASCII grid.
 use Prim.Native.Nat.{ℕ, _+_}
 use mathlib.Core.Path.{_≡_, refl}
 use mathlib.Core.Bool.{true, false}
@@ -11,6 +11,8 @@ use lib.ListN.{replicate, set}
 use Rattle.model.specs.Lists.{tabulate}
 use Rattle.model.specs.Point.{Location, Point, Contents, State, point, location, contentsOf}
 use Rattle.model.specs.Distance.{distance}
+use Rattle.model.specs.Polygon.{polygon, enclosed}
+use Rattle.model.specs.Radius.{locations, radiusOf}
 use Rattle.model.specs.Extent.{extentOf, settled, surveyOf}
 use Rattle.model.specs.Choice.{choice}
 use Rattle.model.specs.Influence.{influenceAt, kind}
@@ -60,7 +62,7 @@ undirected h = record { count = h .count; influence = h .influence; excess = λ 
 
 -- n points beside (2000,2000), one step apart, and the domain's corners, so that R0 is wide
 abbrev crowd : ℕ → State
-crowd n = surveyOf (point 0 0 (pos 0) ∷ tabulate (λ i. point (2001 + i) 2000 (pos 0)) n ++ point 4095 4095 (pos 0) ∷ [])
+crowd n = surveyOf (point 0 0 (pos 0) ∷ point 0 4095 (pos 0) ∷ tabulate (λ i. point (2001 + i) 2000 (pos 0)) n ++ point 4095 0 (pos 0) ∷ point 4095 4095 (pos 0) ∷ [])
 
 abbrev crowded : Location
 crowded = location 2000 2000
@@ -76,12 +78,12 @@ StarredRows =
     × Is (weightedMean (undirected (neighbourhood (two 0 0 (pos 0) 9 0 (pos 90)) (location 3 0)))) (pos 18) 1
     × Is (mean (two 0 0 (pos 0) 10 0 (pos 10)) (location 5 0)) (pos 5) 1
     × (answer (two 0 0 (pos 0) 10 0 (pos 10)) (location 5 0) ≡ pos 1280)
-    × (chosenCount five middle ≡ 5)
-    × (choice five middle .radius ≡ 1708)
-    × (kinds five middle ≡ 2 ∷ 2 ∷ 2 ∷ 2 ∷ 2 ∷ [])
-    × Is (mean five middle) (pos 18) 1
-    × (answer five middle ≡ pos 4608)
-    × (twelve .extent .radius ≡ 1103)
+    × (chosenCount five middle ≡ 4)
+    × (choice five middle .radius ≡ 1280)
+    × (kinds five middle ≡ 3 ∷ 3 ∷ 3 ∷ 3 ∷ [])
+    × Is (mean five middle) (pos 49) 2
+    × (answer five middle ≡ pos 6272)
+    × (twelve .extent .radius ≡ 948)
     × (chosenCount twelve middle ≡ 4)
     × (choice twelve middle .radius ≡ 1280)
     × (kinds twelve middle ≡ 3 ∷ 3 ∷ 3 ∷ 3 ∷ [])
@@ -95,7 +97,16 @@ unfolding mean answer choice neighbours neighbourhood weightedMean extentOf infl
 closed-rows =
     ((refl, lit< tt), refl, (refl, lit< tt), refl, (refl, lit< tt), (refl, lit< tt), (refl, lit< tt), refl, refl, refl, refl, (refl, lit< tt), refl, refl, refl, refl, refl, (refl, lit< tt), refl, refl, refl)
 
--- a cosine above 1, one below it, R of the first point left out, the twelve points in reverse, corner to corner; ten within R0 go by R0, and eleven by D of the eleventh
+-- a state with other numbers kept than those of its points
+abbrev stale : State
+stale = record { contents = contentsOf (point 7 8 (pos 9) ∷ []); extent = record { leastX = 1; greatestX = 2; leastY = 3; greatestY = 4; leastZ = pos 5; greatestZ = pos 6; radius = 1708 } }
+
+-- the five points with R0 1,708 kept beside them
+abbrev wide : State
+wide = record { contents = five .contents; extent = stale .extent }
+
+-- a cosine above 1, one below it, R of the first point left out, the twelve points in reverse, corner to corner; ten within R0 go by R0, and eleven by D of the eleventh;
+-- five within the R0 that is kept, all tapered
 pub further : Is (mean (two 1 1 (pos 0) 2 2 (pos 100)) (location 0 0)) (pos 9829700) 491457
     × Is (mean (two 1 1 (pos 0) 3 0 (pos 100)) (location 0 0)) (pos 443873540) 22664297
     × (chosenCount line middle ≡ 4)
@@ -103,11 +114,48 @@ pub further : Is (mean (two 1 1 (pos 0) 2 2 (pos 100)) (location 0 0)) (pos 9829
     × Is (mean (surveyOf (reverse ring)) middle) (pos 5) 2
     × (distance five (location 0 0) (point 4095 4095 (pos 0)) ≡ 1482548)
     × (chosenCount (crowd 10) crowded ≡ 10)
-    × (choice (crowd 10) crowded .radius ≡ 451728)
+    × (choice (crowd 10) crowded .radius ≡ 418219)
     × (chosenCount (crowd 11) crowded ≡ 10)
     × (choice (crowd 11) crowded .radius ≡ 2816)
-unfolding mean choice extentOf distance tabulate
-further = ((refl, lit< tt), (refl, lit< tt), refl, refl, (refl, lit< tt), refl, refl, refl, refl, refl)
+    × (chosenCount wide middle ≡ 5)
+    × (choice wide middle .radius ≡ 1708)
+    × (kinds wide middle ≡ 2 ∷ 2 ∷ 2 ∷ 2 ∷ 2 ∷ [])
+    × Is (mean wide middle) (pos 18) 1
+    × (answer wide middle ≡ pos 4608)
+unfolding mean answer choice neighbours extentOf distance tabulate
+further = ((refl, lit< tt), (refl, lit< tt), refl, refl, (refl, lit< tt), refl, refl, refl, refl, refl, refl, refl, refl, (refl, lit< tt), refl)
+
+abbrev corner : Location → List ℕ
+corner a = a .x ∷ a .y ∷ []
+
+-- the corners of the polygon around locations
+abbrev cornersOf : List Location → List (List ℕ)
+cornersOf l = map corner (polygon l)
+
+-- three by three locations of a lattice
+abbrev square9 : List Location
+square9 = location 0 0 ∷ location 0 1 ∷ location 0 2 ∷ location 1 0 ∷ location 1 1 ∷ location 1 2 ∷ location 2 0 ∷ location 2 1 ∷ location 2 2 ∷ []
+
+-- no location, one and two; on a line, slanted and upright; the five and the twelve points; a lattice, of which no location on an edge is a corner; locations that cut off
+-- more than one before them, on the lower and on the upper side; the whole domain; and a half, whose R0 is not 0
+pub polygons : (cornersOf [] ≡ [])
+    × (cornersOf (location 7 9 ∷ []) ≡ (7 ∷ 9 ∷ []) ∷ [])
+    × (cornersOf (location 7 9 ∷ location 8 3 ∷ []) ≡ (7 ∷ 9 ∷ []) ∷ (8 ∷ 3 ∷ []) ∷ (7 ∷ 9 ∷ []) ∷ [])
+    × (map enclosed ([] ∷ (location 7 9 ∷ []) ∷ (location 7 9 ∷ location 8 3 ∷ []) ∷ []) ≡ 0 ∷ 0 ∷ 0 ∷ [])
+    × (enclosed (location 0 4 ∷ location 3 3 ∷ location 6 2 ∷ location 12 0 ∷ []) ≡ 0)
+    × (enclosed (location 5 0 ∷ location 5 7 ∷ location 5 4095 ∷ []) ≡ 0)
+    × (cornersOf (locations (five .contents .points)) ≡ (95 ∷ 100 ∷ []) ∷ (100 ∷ 95 ∷ []) ∷ (105 ∷ 100 ∷ []) ∷ (103 ∷ 104 ∷ []) ∷ (100 ∷ 105 ∷ []) ∷ (95 ∷ 100 ∷ []) ∷ [])
+    × (enclosed (locations (five .contents .points)) ≡ 110)
+    × (enclosed (locations ring) ≡ 148)
+    × (cornersOf square9 ≡ (0 ∷ 0 ∷ []) ∷ (2 ∷ 0 ∷ []) ∷ (2 ∷ 2 ∷ []) ∷ (0 ∷ 2 ∷ []) ∷ (0 ∷ 0 ∷ []) ∷ [])
+    × (enclosed square9 ≡ 8)
+    × (cornersOf (location 0 10 ∷ location 1 6 ∷ location 2 4 ∷ location 3 3 ∷ location 4 0 ∷ []) ≡ (0 ∷ 10 ∷ []) ∷ (1 ∷ 6 ∷ []) ∷ (4 ∷ 0 ∷ []) ∷ (3 ∷ 3 ∷ []) ∷ (0 ∷ 10 ∷ []) ∷ [])
+    × (cornersOf (location 0 0 ∷ location 1 4 ∷ location 2 6 ∷ location 3 7 ∷ location 4 10 ∷ []) ≡ (0 ∷ 0 ∷ []) ∷ (3 ∷ 7 ∷ []) ∷ (4 ∷ 10 ∷ []) ∷ (1 ∷ 4 ∷ []) ∷ (0 ∷ 0 ∷ []) ∷ [])
+    × (enclosed (location 0 0 ∷ location 0 4095 ∷ location 4095 0 ∷ location 4095 4095 ∷ []) ≡ 33538050)
+    × (enclosed (location 1 1 ∷ location 2 3 ∷ location 2 4 ∷ []) ≡ 1)
+    × (radiusOf 1 3 ≡ 156)
+unfolding polygon enclosed radiusOf
+polygons = (refl, refl, refl, refl, refl, refl, refl, refl, refl, refl, refl, refl, refl, refl, refl, refl)
 
 -- the first refusal that applies, and what a list of calls leaves
 abbrev full : Contents
@@ -136,35 +184,30 @@ calls = (refl, refl, refl, refl, refl, refl, refl, refl, refl, refl, refl, refl,
 abbrev ends : State → List ℤ
 ends s = let e = s .extent in pos (e .leastX) ∷ pos (e .greatestX) ∷ pos (e .leastY) ∷ pos (e .greatestY) ∷ e .leastZ ∷ e .greatestZ ∷ pos (e .radius) ∷ []
 
--- what is kept after three adds, two of them of corner points, and the calls cs
+-- what is kept after four adds, two of them of corner points, and the calls cs
 abbrev endsAfter : List Call → List ℤ
-endsAfter cs = ends (settled (present (Add 10 20 (pos 5) ∷ Add 30 60 (negsuc 3) ∷ Add 20 40 (pos 1) ∷ cs)))
+endsAfter cs = ends (settled (present (Add 10 20 (pos 5) ∷ Add 30 60 (negsuc 3) ∷ Add 20 50 (pos 1) ∷ Add 12 40 (pos 2) ∷ cs)))
 
-abbrev three : List ℤ
-three = pos 10 ∷ pos 30 ∷ pos 20 ∷ pos 60 ∷ negsuc 3 ∷ pos 5 ∷ pos 6240 ∷ []
-
--- a state with other numbers kept than those of its points
-abbrev stale : State
-stale = record { contents = contentsOf (point 7 8 (pos 9) ∷ []); extent = record { leastX = 1; greatestX = 2; leastY = 3; greatestY = 4; leastZ = pos 5; greatestZ = pos 6; radius = 7 } }
+abbrev four : List ℤ
+four = pos 10 ∷ pos 30 ∷ pos 20 ∷ pos 60 ∷ negsuc 3 ∷ pos 5 ∷ pos 2491 ∷ []
 
 -- zeros of no point; R0 of one point and of two; a dropped corner shrinks the rectangle, but not where another point holds its edge; a change moves the least value
--- inwards; a clear and a load renew all; a refused call of each kind renews nothing; a lookup goes by the R0 that is kept
+-- inwards; a clear and a load renew all; a refused call of each kind renews nothing
 pub kept : (ends (settled fresh) ≡ pos 0 ∷ pos 0 ∷ pos 0 ∷ pos 0 ∷ pos 0 ∷ pos 0 ∷ pos 0 ∷ [])
     × (ends (surveyOf (point 5 6 (negsuc 6) ∷ [])) ≡ pos 5 ∷ pos 5 ∷ pos 6 ∷ pos 6 ∷ negsuc 6 ∷ negsuc 6 ∷ pos 0 ∷ [])
-    × (ends (two 0 4095 (pos 127) 4095 0 (negsuc 127)) ≡ pos 0 ∷ pos 4095 ∷ pos 0 ∷ pos 4095 ∷ negsuc 127 ∷ pos 127 ∷ pos 1106503 ∷ [])
-    × (endsAfter [] ≡ three)
-    × (endsAfter (Drop 30 60 ∷ []) ≡ pos 10 ∷ pos 20 ∷ pos 20 ∷ pos 40 ∷ pos 1 ∷ pos 5 ∷ pos 3821 ∷ [])
-    × (endsAfter (Add 30 20 (pos 5) ∷ Drop 10 20 ∷ []) ≡ pos 20 ∷ pos 30 ∷ pos 20 ∷ pos 60 ∷ negsuc 3 ∷ pos 5 ∷ pos 4412 ∷ [])
-    × (endsAfter (Change 30 60 (pos 0) ∷ []) ≡ pos 10 ∷ pos 30 ∷ pos 20 ∷ pos 60 ∷ pos 0 ∷ pos 5 ∷ pos 6240 ∷ [])
+    × (ends (two 0 4095 (pos 127) 4095 0 (negsuc 127)) ≡ pos 0 ∷ pos 4095 ∷ pos 0 ∷ pos 4095 ∷ negsuc 127 ∷ pos 127 ∷ pos 0 ∷ [])
+    × (endsAfter [] ≡ four)
+    × (endsAfter (Drop 30 60 ∷ []) ≡ pos 10 ∷ pos 20 ∷ pos 20 ∷ pos 50 ∷ pos 1 ∷ pos 5 ∷ pos 1845 ∷ [])
+    × (endsAfter (Add 30 20 (pos 5) ∷ Drop 10 20 ∷ []) ≡ pos 12 ∷ pos 30 ∷ pos 20 ∷ pos 60 ∷ negsuc 3 ∷ pos 5 ∷ pos 3675 ∷ [])
+    × (endsAfter (Change 30 60 (pos 0) ∷ []) ≡ pos 10 ∷ pos 30 ∷ pos 20 ∷ pos 60 ∷ pos 0 ∷ pos 5 ∷ pos 2491 ∷ [])
     × (endsAfter (Clear ∷ []) ≡ ends (settled fresh))
-    × (endsAfter (Load (fileOf (point 1 2 (pos 3) ∷ point 2 1 (pos 4) ∷ [])) ∷ []) ≡ pos 1 ∷ pos 2 ∷ pos 1 ∷ pos 2 ∷ pos 3 ∷ pos 4 ∷ pos 270 ∷ [])
-    × (endsAfter (Add 4096 0 (pos 9) ∷ Add 0 0 (pos 128) ∷ Add 10 20 (pos 9) ∷ Change 0 0 (pos 9) ∷ Drop 0 0 ∷ Load [] ∷ Ask ∷ []) ≡ three)
+    × (endsAfter (Load (fileOf (point 1 2 (pos 3) ∷ point 2 1 (pos 4) ∷ point 2 2 (pos 4) ∷ [])) ∷ []) ≡ pos 1 ∷ pos 2 ∷ pos 1 ∷ pos 2 ∷ pos 3 ∷ pos 4 ∷ pos 156 ∷ [])
+    × (endsAfter (Add 4096 0 (pos 9) ∷ Add 0 0 (pos 128) ∷ Add 10 20 (pos 9) ∷ Change 0 0 (pos 9) ∷ Drop 0 0 ∷ Load [] ∷ Ask ∷ []) ≡ four)
     × (ends (edited (Add 4095 4095 (pos 9)) (settled full)) ≡ pos 0 ∷ pos 255 ∷ pos 0 ∷ pos 0 ∷ pos 0 ∷ pos 0 ∷ pos 0 ∷ [])
-    × (chosenCount (record { contents = five .contents; extent = stale .extent }) middle ≡ 4)
     × (edited (Drop 0 0) stale ≡ stale)
     × (edited (Change 7 8 (pos 0)) stale ≡ surveyOf (point 7 8 (pos 0) ∷ []))
-unfolding choice present edited extentOf fileOf tabulate
-kept = (refl, refl, refl, refl, refl, refl, refl, refl, refl, refl, refl, refl, refl, refl)
+unfolding present edited extentOf fileOf tabulate
+kept = (refl, refl, refl, refl, refl, refl, refl, refl, refl, refl, refl, refl, refl)
 
 -- a lent list: of eleven records the first two are written, nine are too few, and a refused lookup writes none
 abbrev shown : Neighbour → List ℕ

@@ -8,7 +8,13 @@ use lib.ListN.{length}
 use lib.Signed.{leZ, _≤ℤ_}
 use Rattle.model.specs.Lists.{All, Some, through}
 use Rattle.model.specs.Point.{Point, Contents, Extent, State, contentsOf, at}
-use Rattle.model.specs.Radius.{xs, ys, area, initialRadius, IsRadius}
+use Rattle.model.specs.Radius.{twiceArea, initialRadius, IsRadius}
+
+abbrev pub xs : Contents → List ℕ
+xs q = map (λ (a : Point). a .x) (q .points)
+
+abbrev pub ys : Contents → List ℕ
+ys q = map (λ (a : Point). a .y) (q .points)
 
 abbrev pub lesser : ℤ → ℤ → ℤ
 lesser a b = cond (leZ a b) a b
@@ -59,7 +65,7 @@ pub record IsExtent (q : Contents) (e : Extent) : Type 0 where
   pub greatest-y : Some (λ (a : Point). a .y ≡ e .greatestY) (q .points)
   pub least-z : Some (λ (a : Point). a .z ≡ e .leastZ) (q .points)
   pub greatest-z : Some (λ (a : Point). a .z ≡ e .greatestZ) (q .points)
-  pub radius : IsRadius (area q) (length (q .points)) (e .radius)
+  pub radius : IsRadius (twiceArea q) (length (q .points)) (e .radius)
 
 -- §1's sentence of a corner dropped at (x, y) from the points l, for what is then kept: where every other point is short of an edge through it, so is the rectangle.
 -- `drop-shrinks` of the crate laws

@@ -2,6 +2,7 @@
 pub mod Lists
 pub mod Point
 pub mod Distance
+pub mod Polygon
 pub mod Radius
 pub mod Extent
 pub mod Order

@@ -1,4 +1,5 @@
 -- A few words about lists that the definitions share.
+use mathlib.Core.Path.{_≡_}
 use Prim.Native.Nat.{ℕ, zero, suc, _<_}
 use mathlib.Core.Bool.{Bool, cond}
 use mathlib.Core.Logic.{_⊎_}
@@ -34,6 +35,16 @@ module _ {A : Type 0} where
   abbrev pub Some : (A → Type 0) → List A → Type 0
   Some P [] = ⊥
   Some P (a ∷ l) = P a ⊎ Some P l
+
+  -- a is an element
+  abbrev pub Among : A → List A → Type 0
+  Among a l = Some (λ b. a ≡ b) l
+
+  -- a fact of every two elements side by side
+  abbrev pub Steps : (A → A → Type 0) → List A → Type 0
+  Steps R [] = Unit {0}
+  Steps R (a ∷ []) = Unit {0}
+  Steps R (a ∷ b ∷ l) = R a b × Steps R (b ∷ l)
 
   -- a fact of every two elements, the earlier one first
   abbrev pub Pairs : (A → A → Type 0) → List A → Type 0
