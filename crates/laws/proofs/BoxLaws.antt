@@ -9,7 +9,7 @@ use Rattle.model.specs.Lists.{Pairs, Steps, Among}
 use Rattle.model.specs.Point.{Location}
 use Rattle.model.specs.Polygon.{trim, extend, turnsLeft, turnsRight, lower, upper, polygon, shoelacePlus, shoelaceMinus, enclosed, Before}
 use Rattle.laws.proofs.SideLaws.{before-x}
-use Rattle.laws.proofs.RingLaws.{Ends, Tops, tops, extend-ends, extend-among, steps-imp, lower-rises, upper-rises}
+use Rattle.laws.proofs.RingLaws.{Ends, Tops, tops, steps-imp, lower-rises, upper-rises, lower-ends, upper-ends, lower-among, upper-among}
 use Rattle.laws.proofs.AreaLaws.{enclosed-whole, plus-sides, minus-sides}
 
 abbrev Ascent : Location → Location → Type 0
@@ -55,22 +55,6 @@ chain-high k t z (a ∷ r) h g e =
     let s = high-at a t k (h .0) (g a (inr (inl refl))) (g t (inl refl)) in
     omega arith
 
-lower-ends : (a : Location) (l : List Location) → Ends a (lower (a ∷ l))
-unfolding lower extend trim
-lower-ends a l = extend-ends turnsLeft a l (a ∷ []) refl
-
-upper-ends : (a : Location) (l : List Location) → Ends a (upper (a ∷ l))
-unfolding upper extend trim
-upper-ends a l = extend-ends turnsRight a l (a ∷ []) refl
-
-lower-in : (l : List Location) (q : Location) → Among q (lower l) → Among q l
-unfolding lower
-lower-in l q m = ⊎-elim (λ k. absurd k) (λ k. k) (extend-among turnsLeft q l [] m)
-
-upper-in : (l : List Location) (q : Location) → Among q (upper l) → Among q l
-unfolding upper
-upper-in l q m = ⊎-elim (λ k. absurd k) (λ k. k) (extend-among turnsRight q l [] m)
-
 between : (area low wide ax y₀ y₁ cx x₁ : ℕ) → low ≡ y₁ - y₀ → wide ≡ cx - ax → y₀ ≤ y₁ → ax ≤ cx → cx ≤ x₁
     → area + 2 * y₀ * cx + 2 * y₁ * ax ≤ 2 * y₁ * cx + 2 * y₀ * ax → area ≤ 2 * ((x₁ - ax) * (y₁ - y₀))
 between area low wide ax y₀ y₁ cx x₁ e f g h k s =
@@ -103,7 +87,7 @@ module _ (a : Location) (l : List Location) (x₁ y₀ y₁ : ℕ) (up : Pairs B
   enclosed-box =
       sides-fit (lower (a ∷ l)) (upper (a ∷ l)) (tops (a ∷ l))
       (steps-imp _ _ (λ p q k. before-x q p k) (lower (a ∷ l)) (lower-rises (a ∷ l) up)) (steps-imp _ _ (λ p q k. before-x q p k) (upper (a ∷ l)) (upper-rises (a ∷ l) up))
-      (lower-ends a l) (upper-ends a l) (lower-in (a ∷ l)) (upper-in (a ∷ l)) total
+      (lower-ends a l) (upper-ends a l) (lower-among (a ∷ l)) (upper-among (a ∷ l)) total
     where
       total : enclosed (a ∷ l) + (shoelacePlus (lower (a ∷ l)) + shoelaceMinus (upper (a ∷ l))) ≡ shoelaceMinus (lower (a ∷ l)) + shoelacePlus (upper (a ∷ l))
       total =

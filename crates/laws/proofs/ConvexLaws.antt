@@ -127,7 +127,7 @@ first-before : (a v : Location) (l : List Location) → All (Before a) l → Amo
 first-before a v l up m e =
     ⊎-elim (λ g. g) (λ g. absurd (⊎-elim (λ k. twice a (subst (λ (t : Location). Before t a) k g)) (λ n. turned a v g (all-among (Before a) l up v n)) m)) e
 
-first-least : (a z : Location) (l : List Location) → All (Before a) l → Among z (a ∷ l) → NotAfter a z
+pub first-least : (a z : Location) (l : List Location) → All (Before a) l → Among z (a ∷ l) → NotAfter a z
 first-least a z l up m =
     ⊎-elim (λ e. subst (λ (t : Location). NotAfter a t) (sym e) (record { x-le = omega arith; y-le = λ k. omega arith })) (λ n. weaken a z (all-among (Before a) l up z n)) m
 

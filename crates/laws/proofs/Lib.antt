@@ -18,6 +18,7 @@ pub mod RingLaws
 pub mod AreaLaws
 pub mod FlatLaws
 pub mod ConvexLaws
+pub mod PolygonLaws
 pub mod AreaBound
 pub mod BoxLaws
 pub mod OrderLaws

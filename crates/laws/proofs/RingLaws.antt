@@ -116,6 +116,23 @@ corners-among l q m =
     from : Among q [] ⊎ Among q l → Among q l
     from h = ⊎-elim (λ k. absurd k) (λ k. k) h
 
+-- each side ends at the first location, and its own are among the locations
+pub lower-ends : (a : Location) (l : List Location) → Ends a (lower (a ∷ l))
+unfolding lower extend trim
+lower-ends a l = extend-ends turnsLeft a l (a ∷ []) refl
+
+pub upper-ends : (a : Location) (l : List Location) → Ends a (upper (a ∷ l))
+unfolding upper extend trim
+upper-ends a l = extend-ends turnsRight a l (a ∷ []) refl
+
+pub lower-among : (l : List Location) (q : Location) → Among q (lower l) → Among q l
+unfolding lower
+lower-among l q m = ⊎-elim (λ k. absurd k) (λ k. k) (extend-among turnsLeft q l [] m)
+
+pub upper-among : (l : List Location) (q : Location) → Among q (upper l) → Among q l
+unfolding upper
+upper-among l q m = ⊎-elim (λ k. absurd k) (λ k. k) (extend-among turnsRight q l [] m)
+
 -- the corners go from the first point round to it
 pub record Closed (a : Location) (l : List Location) : Type 0 where
   pub begins : Begins a l
@@ -145,12 +162,15 @@ unfolding upper
 upper-holds l h = chain-holds Before NotAfter Right turnsRight upper-laws l h
 
 -- (2) no point lies outside: every point lies on each side's line or left of it
+pub lower-edges : (l : List Location) → Pairs Before l → Steps (λ b a. (q : Location) → Among q l → Left a b q) (lower l)
+lower-edges l h = steps-imp _ _ (λ b a k q m. k q (among-reverse q l [] (inl m))) (lower l) (lower-holds l h .edges)
+
+pub upper-edges : (l : List Location) → Pairs Before l → Steps (λ b a. (q : Location) → Among q l → Left b a q) (upper l)
+upper-edges l h = steps-imp _ _ (λ b a k q m. k q (among-reverse q l [] (inl m))) (upper l) (upper-holds l h .edges)
+
 pub none-outside : (l : List Location) → Pairs Before l → Steps (λ a b. (q : Location) → Among q l → Left a b q) (polygon l)
 unfolding polygon
-none-outside l h =
-    joined (λ (a b : Location). (q : Location) → Among q l → Left a b q) (lower l) (upper l) (tops l)
-    (steps-imp _ _ (λ b a k q m. k q (among-reverse q l [] (inl m))) (lower l) (lower-holds l h .edges))
-    (steps-imp _ _ (λ b a k q m. k q (among-reverse q l [] (inl m))) (upper l) (upper-holds l h .edges))
+none-outside l h = joined (λ (a b : Location). (q : Location) → Among q l → Left a b q) (lower l) (upper l) (tops l) (lower-edges l h) (upper-edges l h)
 
 -- (4) the lower side turns left at each inner corner, the upper one right, and both go from left to right
 pub lower-bends : (l : List Location) → Pairs Before l → Bends turnsLeft (lower l)

@@ -113,13 +113,13 @@ module _ (a b c : Location) (g : a .x ≤ b .x) (h : b .x ≤ c .x) where
   chain-left : Way a b b c → Left a b c
   chain-left k = record { le = rw (← gap (a .x) (b .x) g, ← gap (b .x) (c .x) h) at (chain-from (a .y) (b .y) (c .y) (a .x) (b .x - a .x) (c .x - b .x) k) }
 
-  left-back : Left b a c → Way b c a b
+  pub left-back : Left b a c → Way b c a b
   left-back k = back-to (a .y) (b .y) (c .y) (a .x) (b .x - a .x) (c .x - b .x) (rw (← gap (a .x) (b .x) g, ← gap (b .x) (c .x) h) (k .le))
 
-  back-left : Way b c a b → Left b a c
+  pub back-left : Way b c a b → Left b a c
   back-left k = record { le = rw (← gap (a .x) (b .x) g, ← gap (b .x) (c .x) h) at (back-from (a .y) (b .y) (c .y) (a .x) (b .x - a .x) (c .x - b .x) k) }
 
-left-cofan : (s t q : Location) → s .x ≤ t .x → q .x ≤ t .x → Left s t q → Way q t s t
+pub left-cofan : (s t q : Location) → s .x ≤ t .x → q .x ≤ t .x → Left s t q → Way q t s t
 left-cofan s t q g h k =
     cofan-to (s .x) (s .y) (q .x) (q .y) (t .y) (t .x - s .x) (t .x - q .x) (omega arith) (rw (← gap (s .x) (t .x) g) (k .le))
 
@@ -127,7 +127,7 @@ left-cofan s t q g h k =
 pub left-next : (a b c : Location) → Left a b c → Left b c a
 left-next a b c h = record { le = let k = h .le in omega arith }
 
-way-trans : (a b c d e f : Location) → Before c d → NotAfter e f → Way a b c d → Way c d e f → Way a b e f
+pub way-trans : (a b c d e f : Location) → Before c d → NotAfter e f → Way a b c d → Way c d e f → Way a b e f
 way-trans a b c d e f v w g h =
     turn-trans (b .x - a .x) (b .y) (a .y) (d .x - c .x) (d .y) (c .y) (f .x - e .x) (f .y) (e .y)
     (λ z. before-y c d v (let k = before-x c d v in omega arith)) (λ z. w .y-le (let k = w .x-le in omega arith)) g h

@@ -4,9 +4,9 @@ use Prim.Native.Nat.{ℕ, _+_, _-_, _*_, _≤_, _<_}
 use mathlib.Core.Path.{_≡_}
 use mathlib.Core.Logic.{_⊎_}
 use mathlib.Core.Bool.{Bool, true, cond}
-use mathlib.Core.List.{List, [], _∷_, _++_, reverseAux}
+use mathlib.Core.List.{List, [], _∷_, _++_, reverse, reverseAux}
 use lib.Dec.{ltb}
-use lib.ListN.{take, drop}
+use lib.ListN.{length, take, drop}
 use Rattle.model.specs.Lists.{All, Among, Pairs, Steps}
 use Rattle.model.specs.Point.{Location}
 
@@ -89,10 +89,14 @@ Turns (a ∷ b ∷ c ∷ l) = (turnsLeft a b c ≡ true) × Turns (b ∷ c ∷ l
 
 -- document 02's sentences of a polygon w around the locations l: `polygon-is` of the crate laws
 pub record IsPolygon (l w : List Location) : Type 0 where
-  -- its corners are among the locations, and each comes once before the first comes again
+  -- it begins at the first location and comes back to it, by another where there is one
+  pub begins : take 1 w ≡ take 1 l
+  pub ends : take 1 (reverse w) ≡ take 1 l
+  pub goes : 1 < length l → 1 < length w
+  -- its corners are among the locations, and after its beginning none comes twice
   pub corners : (a : Location) → Among a w → Among a l
   pub once : Pairs (λ a b. a ≡ b → ⊥) (drop 1 w)
-  -- no location lies outside
+  -- no location lies outside: each lies left of every edge, or on its line
   pub around : Steps (λ a b. (q : Location) → Among q l → Left a b q) w
-  -- unless all are on one line it turns left at every corner, the first one, where it closes, among them
+  -- unless all are on one line, it turns left at every corner, the one where it closes among them
   pub convex : (OneLine l → ⊥) → Turns (w ++ take 1 (drop 1 w))

@@ -9,11 +9,12 @@ use lib.IntN.{ℤ, pos}
 use lib.ListN.{length, getD, length-map}
 use borrow.Author.Tests.{lt-ltb}
 use Rattle.model.specs.Lists.{All}
-use Rattle.model.specs.Point.{Point, point, inDomain}
+use Rattle.model.specs.Point.{Point, location, point, inDomain}
+use Rattle.model.specs.Radius.{locations}
 use Rattle.laws.proofs.ListLaws.{all-any, all-imp, all-map, getD-tabulate, tabulate-more}
 use Rattle.laws.proofs.MapLaws.{map-tabulate}
 use Rattle.laws.proofs.RecordLaws.{domain-bounds}
-use Rattle.point_arrays.specs.PointArrays.{held, wrapped, pointsIn}
+use Rattle.point_arrays.specs.PointArrays.{held, wrapped, pointsIn, locationsIn}
 use Rattle.point_arrays.proofs.HeldLaws.{length-held}
 
 pub length-points : (xs ys : List ℕ) (zs : List ℤ) (n : ℕ) → length (pointsIn xs ys zs n) ≡ min n 256
@@ -48,3 +49,16 @@ pub points-below : (xs ys : List ℕ) (zs : List ℤ) (n : ℕ) → All (λ (a :
 points-below xs ys zs n =
     all-imp (λ (a : Point). inDomain (a .x) (a .y) ≡ true) (λ (a : Point). (a .x < 4096) × (a .y < 4096)) (λ a h. domain-bounds (a .x) (a .y) h) (pointsIn xs ys zs n)
     (points-inside xs ys zs n)
+
+-- where they are
+pub locations-read : (xs ys : List ℕ) (zs : List ℤ) (n : ℕ) → locations (pointsIn xs ys zs n) ≡ locationsIn xs ys n
+unfolding pointsIn held locationsIn
+locations-read xs ys zs n = rw (map-tabulate, map-tabulate)
+
+pub locations-more : (xs ys : List ℕ) (i : ℕ) → i < 256
+    → locationsIn xs ys (i + 1) ≡ locationsIn xs ys i ++ (location (getD xs i 0 % 4096) (getD ys i 0 % 4096) ∷ [])
+unfolding locationsIn
+locations-more xs ys i h =
+    let e : min (i + 1) 256 ≡ i + 1 = omega arith in
+    let f : min i 256 ≡ i = omega arith in
+    rw (e, f, tabulate-more)

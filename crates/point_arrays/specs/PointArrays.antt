@@ -5,7 +5,7 @@ use mathlib.Core.List.{List, map}
 use lib.IntN.{ℤ, pos}
 use lib.ListN.{getD}
 use Rattle.model.specs.Lists.{tabulate}
-use Rattle.model.specs.Point.{Point, State, point}
+use Rattle.model.specs.Point.{Location, Point, State, location, point}
 
 -- as they stand: the first n elements
 unfoldable pub held : List ℕ → List ℕ → List ℤ → ℕ → List Point
@@ -20,6 +20,11 @@ wrapped a = point (a .x % 4096) (a .y % 4096) (a .z)
 unfoldable pub pointsIn : List ℕ → List ℕ → List ℤ → ℕ → List Point
 unfolding held
 pointsIn xs ys zs n = map wrapped (held xs ys zs (min n 256))
+
+-- where they are, by the arrays of x and y alone: `locations-read` of this crate
+unfoldable pub locationsIn : List ℕ → List ℕ → ℕ → List Location
+unfolding tabulate
+locationsIn xs ys n = tabulate (λ i. location (getD xs i 0 % 4096) (getD ys i 0 % 4096)) (min n 256)
 
 -- the points of s are these
 abbrev pub HoldsPoints : State → List ℕ → List ℕ → List ℤ → ℕ → Type 0
