@@ -1,22 +1,20 @@
 -- The ends of points, of one and of one more, and the extent from them.
 use mathlib.Core.Path.{_≡_, sym, ap, _∙_}
-use Prim.Native.Nat.{ℕ, _+_, _-_, _*_, _^_, _%_, _≤_, _<_, min, max}
-use native.Mathlib.Nat.{mul-le-mul}
+use Prim.Native.Nat.{ℕ, _+_, _-_, _^_, _%_, _≤_, _<_, min, max}
 use native.Mathlib.Omega.{arith}
 use mathlib.Core.List.{List, [], _∷_, _++_, map, map-append}
 use lib.IntN.{ℤ, pos}
 use lib.ListN.{length, getD, length-map}
 use Rattle.model.specs.Lists.{tabulate, through}
 use Rattle.model.specs.Point.{Point, Extent as Kept, contentsOf, point}
-use Rattle.model.specs.Radius.{area, radiusOf, initialRadius}
+use Rattle.model.specs.Polygon.{enclosed}
+use Rattle.model.specs.Radius.{twiceArea, radiusOf, initialRadius}
 use Rattle.model.specs.Extent.{lesser, greater, extentOf, valuesBy}
-use Rattle.laws.proofs.ListLaws.{all-imp}
 use Rattle.laws.proofs.ThroughLaws.{through-last}
 use Rattle.laws.proofs.ValueLaws.{values-last}
-use Rattle.laws.proofs.ChosenLaws.{Inside}
-use Rattle.laws.proofs.ExtentLaws.{least-greatest, max-most, kept-most}
-use Rattle.point_arrays.specs.PointArrays.{held, pointsIn}
-use Rattle.point_arrays.proofs.ReadLaws.{length-points, points-more, points-below}
+use Rattle.laws.proofs.ExtentLaws.{twice-most, kept-most}
+use Rattle.point_arrays.specs.PointArrays.{held, pointsIn, locationsIn}
+use Rattle.point_arrays.proofs.ReadLaws.{length-points, points-more, points-below, locations-read}
 use Rattle.extent.specs.declared.Extent.{Extent}
 use Rattle.extent.specs.Kept.{withRadius, asExtent, EndsOf}
 
@@ -72,29 +70,18 @@ module _ (xs ys : List ℕ) (zs : List ℤ) (n m : ℕ) (em : m ≡ min n 256) w
     counted : length points ≡ m
     counted = length-points xs ys zs n ∙ sym em
 
-    -- a side of the rectangle, by a coordinate
-    side : (f : Point → ℕ) → ((a : Point) → Inside a → f a ≤ 4095) → (low high : ℕ) → low ≡ through 0 min (map f points) → high ≡ through 0 max (map f points)
-        → (low ≤ high) × (high ≤ 4095)
-    side f inside low high el eh =
-        rw (el, eh) (least-greatest f points (rw counted some), max-most f points (all-imp Inside (λ a. f a ≤ 4095) inside points (points-below xs ys zs n)))
+    -- twice the area, from where the first m points are
+    area : (a : ℕ) → a ≡ enclosed (locationsIn xs ys m) → a ≡ twiceArea (contentsOf points)
+    unfolding twiceArea locationsIn
+    area a h = let k : min m 256 ≡ min n 256 = omega arith in rw (locations-read xs ys zs n) (rw k at h)
 
-    pub across : (e .«least_x» ≤ e .«greatest_x») × (e .«greatest_x» ≤ 4095)
-    across = side (λ a. a .x) (λ a h. omega (arith, h .0)) _ _ (ends .least-x) (ends .greatest-x)
+    pub small : (a : ℕ) → a ≡ enclosed (locationsIn xs ys m) → a < 2 ^ 33
+    small a h = omega (arith, area a h, twice-most (contentsOf points) (points-below xs ys zs n), counted)
 
-    pub up : (e .«least_y» ≤ e .«greatest_y») × (e .«greatest_y» ≤ 4095)
-    up = side (λ a. a .y) (λ a h. omega (arith, h .1)) _ _ (ends .least-y) (ends .greatest-y)
-
-    pub small : (e .«greatest_x» - e .«least_x») * (e .«greatest_y» - e .«least_y») ≤ 16769025
-    small =
-        let u : e .«greatest_x» - e .«least_x» ≤ 4095 = omega (arith, across .1) in
-        let v : e .«greatest_y» - e .«least_y» ≤ 4095 = omega (arith, up .1) in
-        mul-le-mul u v
-
-    pub extent-some : (r : ℕ) → r ≡ radiusOf ((e .«greatest_x» - e .«least_x») * (e .«greatest_y» - e .«least_y»)) m
-        → (withRadius e r ≡ extentOf (contentsOf points)) × (r ≤ 2 ^ 24)
-    unfolding extentOf initialRadius area
-    extent-some r h =
+    pub extent-some : (a r : ℕ) → a ≡ enclosed (locationsIn xs ys m) → r ≡ radiusOf a m → (withRadius e r ≡ extentOf (contentsOf points)) × (r ≤ 2 ^ 24)
+    unfolding extentOf initialRadius
+    extent-some a r g h =
         let same : withRadius e r ≡ extentOf (contentsOf points) =
-        rw (h, ends .least-x, ends .greatest-x, ends .least-y, ends .greatest-y, ends .least-z, ends .greatest-z, ← counted) in
+        rw (h, area a g, ends .least-x, ends .greatest-x, ends .least-y, ends .greatest-y, ends .least-z, ends .greatest-z, ← counted) in
         let k = ap (λ (t : Kept). t .radius) same in
         (same, omega (arith, kept-most (contentsOf points) (points-below xs ys zs n)))

@@ -116,8 +116,7 @@ pub fn extent_of<'a>(xs: &'a [u16; 256], ys: &'a [u16; 256], zs: &'a [i8; 256], 
         return zeros();
     }
     let mut e = ends_of(xs, ys, zs, m);
-    let wide = (e.greatest_x - e.least_x) as u64;
-    let high = (e.greatest_y - e.least_y) as u64;
-    e.radius = root::radius_of(wide * high, m as u64);
+    let twice = polygon::enclosed(xs, ys, m);
+    e.radius = root::radius_of(twice, m as u64);
     e
 }

@@ -7,12 +7,16 @@ use mathlib.Core.Bool.{true}
 use mathlib.Core.List.{List, [], _∷_, _++_}
 use lib.ListN.{length, take, drop, take-append-drop}
 use Rattle.model.specs.Point.{Point, Contents, Extent, State, location, inDomain}
+use Rattle.model.specs.Radius.{locations, twiceArea}
 use Rattle.model.specs.Extent.{extentOf, settled}
+use Rattle.model.specs.Invariant.{Invariant}
 use Rattle.model.specs.Answer.{answer, chosenCount}
 use Rattle.model.specs.Refusals.{neighboursRefusal}
 use Rattle.model.specs.Lent.{neighboursInto}
 use Rattle.model.specs.Choice.{choice}
 use Rattle.laws.proofs.CallLaws.{lookup-none, lookup-some, neighbours-accepted, neighbours-refusal, neighbours-short, neighbours-enough, neighbours-unaltered}
+use Rattle.laws.proofs.PolygonLaws.{polygon-is, locations-ascend}
+use Rattle.laws.proofs.BoxLaws.{area-is}
 use Rattle.laws.proofs.ExtentLaws.{ends-none, ends-are}
 use Rattle.neighbour_records.specs.declared.Record.{Record}
 use Rattle.neighbour_records.specs.Records.{recordOf}
@@ -92,5 +96,14 @@ module _ (x y : ℕ) (q : Contents) where
       ∙ ap (λ (t : List Record). t ++ drop n l) (neighbours-unaltered recordOf x y (settled q) (take n l) (lent-refused x y (length (take n l)) q h))
       ∙ take-append-drop n l)
 
-pub claim-kept : (q : Contents) (e : Extent) → e ≡ extentOf q → ClaimKept q e
-claim-kept q e h = record { same = h; none = λ k. h ∙ ends-none q k; ends = λ k. rw h (ends-are q k) }
+pub claim-kept : (q : Contents) (e : Extent) → Invariant (q .points) → e ≡ extentOf q → ClaimKept q e
+unfolding twiceArea
+claim-kept q e sound h =
+    let up = locations-ascend (q .points) (sound .ascending) in
+    record {
+      same = h;
+      none = λ k. h ∙ ends-none q k;
+      ends = λ k. rw h (ends-are q k);
+      around = polygon-is (locations (q .points)) up;
+      area = area-is (locations (q .points)) up;
+    }

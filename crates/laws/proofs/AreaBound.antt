@@ -1,7 +1,7 @@
--- How large enclosed can be, of points in any order.
-use Prim.Native.Nat.{ℕ, zero, suc, _+_, _*_, _-_, _≤_, _<_}
-use mathlib.Core.Path.{_≡_, refl, sym, ap, _∙_, subst}
-use mathlib.Core.Logic.{_⊎_, inl, inr, ⊎-elim}
+-- How much locations can enclose, in whatever order they stand: `enclosed-most`.
+use Prim.Native.Nat.{ℕ, suc, _+_, _*_, _-_, _≤_}
+use mathlib.Core.Path.{_≡_, refl}
+use mathlib.Core.Logic.{inl, inr}
 use mathlib.Core.Bool.{Bool, true, false, cond}
 use mathlib.Core.List.{List, [], _∷_, reverseAux}
 use native.Mathlib.Omega.{arith}
@@ -36,7 +36,7 @@ length-tail : {A : Type 0} (s : List A) → length (drop 1 s) ≤ length s
 length-tail [] = omega arith
 length-tail (a ∷ s) = omega arith
 
-pub length-polygon : (l : List Location) → length (polygon l) ≤ 2 * length l
+length-polygon : (l : List Location) → length (polygon l) ≤ 2 * length l
 unfolding polygon lower upper
 length-polygon l =
     let a = length-reversed (drop 1 (lower l)) (upper l) in
@@ -57,7 +57,7 @@ plus-bound m (a ∷ b ∷ l) h =
     step : (n s u v : ℕ) → u ≤ s → v ≤ suc n * s → u + v ≤ suc (suc n) * s
     step n s u v g k = omega arith
 
--- with coordinates up to m
+-- of coordinates up to m
 pub enclosed-most : (m : ℕ) (l : List Location) → ((q : Location) → Among q l → (q .x ≤ m) × (q .y ≤ m)) → enclosed l ≤ 2 * length l * (m * m)
 unfolding enclosed
 enclosed-most m l h =

@@ -1,7 +1,7 @@
--- What enclosed is: the sum of the triangles from any place to the sides; zero where all points are on one line.
-use Prim.Native.Nat.{ℕ, _+_, _*_, _-_, _≤_, _<_}
-use mathlib.Core.Path.{_≡_, refl, sym, ap, _∙_, subst}
-use mathlib.Core.Logic.{_⊎_, inl, inr, ⊎-elim}
+-- What `enclosed` is: twice the area of the triangles from any location to the edges, added up; zero where all locations are on one line; and the shoelace sums by side.
+use Prim.Native.Nat.{ℕ, _+_, _*_, _-_, _≤_}
+use mathlib.Core.Path.{_≡_, refl, sym, subst}
+use mathlib.Core.Logic.{inl, inr}
 use mathlib.Core.List.{List, [], _∷_, reverseAux}
 use lib.ListN.{drop}
 use native.Mathlib.Omega.{arith}
@@ -9,9 +9,9 @@ use Rattle.model.specs.Lists.{Pairs, Steps, Among}
 use Rattle.model.specs.Point.{Location}
 use Rattle.model.specs.Polygon.{extend, lower, upper, polygon, shoelacePlus, shoelaceMinus, enclosed, crossPlus, crossMinus, Before, OneLine}
 use Rattle.laws.proofs.SideLaws.{left-next}
-use Rattle.laws.proofs.RingLaws.{Begins, Ends, Tops, tops, Closed, polygon-closed, corners-among, none-outside}
+use Rattle.laws.proofs.RingLaws.{Ends, steps-imp, Tops, tops, Closed, polygon-closed, corners-among, none-outside}
 
--- the triangles from o to each side of a way, twice their areas added up, as a difference
+-- twice the areas of the triangles from o to each edge of a way, added up, as a difference
 unfoldable pub fanPlus : Location → List Location → ℕ
 fanPlus o [] = 0
 fanPlus o (a ∷ []) = 0
@@ -55,11 +55,6 @@ steps-of P [] h = tt
 steps-of P (a ∷ []) h = tt
 steps-of P (a ∷ b ∷ l) h = (h a b (inl refl) (inr (inl refl)), steps-of P (b ∷ l) (λ c d m n. h c d (inr m) (inr n)))
 
-pub steps-map : {A : Type 0} (P Q : A → A → Type 0) → ((a b : A) → P a b → Q a b) → (l : List A) → Steps P l → Steps Q l
-steps-map P Q f [] h = tt
-steps-map P Q f (a ∷ []) h = tt
-steps-map P Q f (a ∷ b ∷ l) h = (f a b (h .0), steps-map P Q f (b ∷ l) (h .1))
-
 none-plus : shoelacePlus (polygon []) ≡ 0
 unfolding shoelacePlus polygon lower upper extend
 none-plus = refl
@@ -68,17 +63,17 @@ none-minus : shoelaceMinus (polygon []) ≡ 0
 unfolding shoelaceMinus polygon lower upper extend
 none-minus = refl
 
--- the difference that enclosed takes is no less than zero: enclosed is the polygon's signed area
+-- the difference that `enclosed` takes is not cut off at zero
 pub enclosed-whole : (l : List Location) → Pairs Before l → enclosed l + shoelaceMinus (polygon l) ≡ shoelacePlus (polygon l)
 unfolding enclosed
 enclosed-whole [] up = rw (none-plus, none-minus)
 enclosed-whole (a ∷ l) up =
     let c = closed-fan a a (polygon (a ∷ l)) (polygon-closed a l) in
     let g : fanMinus a (polygon (a ∷ l)) ≤ fanPlus a (polygon (a ∷ l))
-    = fan-le a (polygon (a ∷ l)) (steps-map _ _ (λ u v k. left-next v a u (left-next u v a (k a (inl refl))) .le) (polygon (a ∷ l)) (none-outside (a ∷ l) up)) in
+    = fan-le a (polygon (a ∷ l)) (steps-imp _ _ (λ u v k. left-next v a u (left-next u v a (k a (inl refl))) .le) (polygon (a ∷ l)) (none-outside (a ∷ l) up)) in
     omega arith
 
--- (3) points on one line, in any order, have no area
+-- locations on one line, in any order, enclose nothing
 pub line-enclosed : (l : List Location) → OneLine l → enclosed l ≡ 0
 unfolding enclosed
 line-enclosed [] h = rw (none-plus, none-minus)
@@ -88,7 +83,7 @@ line-enclosed (a ∷ l) h =
     = fan-eq a (polygon (a ∷ l)) (steps-of _ (polygon (a ∷ l)) (λ u v m n. h a u v (inl refl) (corners-among (a ∷ l) u m) (corners-among (a ∷ l) v n))) in
     omega arith
 
--- enclosed is the sum of the triangles from any place o to the sides (as a difference where o is outside)
+-- the triangles from any location o to the edges, of which those that lie outside count as negative
 pub enclosed-fan : (o a : Location) (l : List Location) → Pairs Before (a ∷ l) → enclosed (a ∷ l) + fanMinus o (polygon (a ∷ l)) ≡ fanPlus o (polygon (a ∷ l))
 enclosed-fan o a l up =
     let c = closed-fan o a (polygon (a ∷ l)) (polygon-closed a l) in

@@ -1,16 +1,18 @@
--- The polygon is no larger than the upright rectangle around the points.
-use Prim.Native.Nat.{ℕ, zero, suc, _+_, _*_, _-_, _≤_, _<_}
-use mathlib.Core.Path.{_≡_, refl, sym, ap, _∙_, subst}
-use mathlib.Core.Logic.{_⊎_, inl, inr, ⊎-elim}
+-- What locations enclose is no more than an upright rectangle around them; with that, document 02's sentences of the area: `area-is`.
+use Prim.Native.Nat.{ℕ, _+_, _*_, _-_, _≤_}
+use mathlib.Core.Path.{_≡_, refl, sym, subst}
+use mathlib.Core.Logic.{inl, inr}
 use mathlib.Core.List.{List, [], _∷_}
 use native.Mathlib.Omega.{arith}
-use native.Mathlib.Nat.{mul-le-mul, mul-le-mul-left}
-use Rattle.model.specs.Lists.{Pairs, Steps, Among}
+use native.Mathlib.Nat.{mul-le-mul-left, mul-le-mul-right}
+use Rattle.model.specs.Lists.{All, Pairs, Steps, Among}
 use Rattle.model.specs.Point.{Location}
-use Rattle.model.specs.Polygon.{trim, extend, turnsLeft, turnsRight, lower, upper, polygon, shoelacePlus, shoelaceMinus, enclosed, Before}
-use Rattle.laws.proofs.SideLaws.{before-x}
+use Rattle.model.specs.Polygon.{lower, upper, polygon, shoelacePlus, shoelaceMinus, enclosed, Before, IsArea}
+use Rattle.laws.proofs.ListLaws.{all-among}
+use Rattle.laws.proofs.SideLaws.{as-sum, before-x}
 use Rattle.laws.proofs.RingLaws.{Ends, Tops, tops, steps-imp, lower-rises, upper-rises, lower-ends, upper-ends, lower-among, upper-among}
-use Rattle.laws.proofs.AreaLaws.{enclosed-whole, plus-sides, minus-sides}
+use Rattle.laws.proofs.AreaLaws.{enclosed-whole, line-enclosed, plus-sides, minus-sides}
+use Rattle.laws.proofs.FlatLaws.{first-least, flat-only}
 
 abbrev Ascent : Location → Location → Type 0
 Ascent b a = a .x ≤ b .x
@@ -28,14 +30,11 @@ edge-high ax d ay ty k g h =
     let v : d * ty ≤ d * k = mul-le-mul-left d h in
     omega arith
 
-gap : (m n : ℕ) → m ≤ n → n ≡ m + (n - m)
-gap m n h = omega arith
-
 low-at : (a t : Location) (k : ℕ) → a .x ≤ t .x → k ≤ a .y → k ≤ t .y → t .y * a .x + a .x * a .y + 2 * k * t .x ≤ t .x * a .y + t .x * t .y + 2 * k * a .x
-low-at a t k x g h = rw (← gap (a .x) (t .x) x) at (edge-low (a .x) (t .x - a .x) (a .y) (t .y) k g h)
+low-at a t k x g h = rw (← as-sum (a .x) (t .x) x) at (edge-low (a .x) (t .x - a .x) (a .y) (t .y) k g h)
 
 high-at : (a t : Location) (k : ℕ) → a .x ≤ t .x → a .y ≤ k → t .y ≤ k → t .x * a .y + t .x * t .y + 2 * k * a .x ≤ t .y * a .x + a .x * a .y + 2 * k * t .x
-high-at a t k x g h = rw (← gap (a .x) (t .x) x) at (edge-high (a .x) (t .x - a .x) (a .y) (t .y) k g h)
+high-at a t k x g h = rw (← as-sum (a .x) (t .x) x) at (edge-high (a .x) (t .x - a .x) (a .y) (t .y) k g h)
 
 chain-low : (k : ℕ) (t z : Location) (r : List Location) → Steps Ascent (t ∷ r) → ((q : Location) → Among q (t ∷ r) → k ≤ q .y) → Ends z (t ∷ r)
     → shoelaceMinus (t ∷ r) + z .x * z .y + 2 * k * t .x ≤ shoelacePlus (t ∷ r) + t .x * t .y + 2 * k * z .x
@@ -62,7 +61,7 @@ between area low wide ax y₀ y₁ cx x₁ e f g h k s =
     let c : cx ≡ ax + wide = omega arith in
     let s′ : area + 2 * y₀ * (ax + wide) + 2 * (y₀ + low) * ax ≤ 2 * (y₀ + low) * (ax + wide) + 2 * y₀ * ax = rw (y, c) at s in
     let w : wide ≤ x₁ - ax = omega arith in
-    let m : wide * low ≤ (x₁ - ax) * low = native.Mathlib.Nat.mul-le-mul-right low w in
+    let m : wide * low ≤ (x₁ - ax) * low = mul-le-mul-right low w in
     rw (← e) (omega arith)
 
 module _ (a : Location) (l : List Location) (x₁ y₀ y₁ : ℕ) (up : Pairs Before (a ∷ l))
@@ -81,8 +80,8 @@ module _ (a : Location) (l : List Location) (x₁ y₀ y₁ : ℕ) (up : Pairs B
       let b = box c (m c (inl refl)) in
       between (enclosed (a ∷ l)) (y₁ - y₀) (c .x - a .x) (a .x) y₀ y₁ (c .x) x₁ refl refl (omega arith) (b .0) (b .1) (omega arith)
 
-  -- with the first point's x on the left
-  pub enclosed-box : enclosed (a ∷ l) ≤ 2 * ((x₁ - a .x) * (y₁ - y₀))
+  -- the first location's x is on the left
+  enclosed-box : enclosed (a ∷ l) ≤ 2 * ((x₁ - a .x) * (y₁ - y₀))
   unfolding polygon
   enclosed-box =
       sides-fit (lower (a ∷ l)) (upper (a ∷ l)) (tops (a ∷ l))
@@ -95,3 +94,15 @@ module _ (a : Location) (l : List Location) (x₁ y₀ y₁ : ℕ) (up : Pairs B
           let f = plus-sides (a ∷ l) in
           let g = minus-sides (a ∷ l) in
           omega arith
+
+wider : (a l x₀ x₁ h : ℕ) → x₀ ≤ l → a ≤ 2 * ((x₁ - l) * h) → a ≤ 2 * ((x₁ - x₀) * h)
+wider a l x₀ x₁ h g k = let m : (x₁ - l) * h ≤ (x₁ - x₀) * h = mul-le-mul-right h (omega arith) in omega arith
+
+pub area-is : (l : List Location) → Pairs Before l → IsArea l (enclosed l)
+area-is l up = record { flat = (flat-only l up, line-enclosed l); most = fits l up }
+  where
+    fits : (l : List Location) → Pairs Before l → (x₀ x₁ y₀ y₁ : ℕ) → All (λ q. (x₀ ≤ q .x) × (q .x ≤ x₁) × (y₀ ≤ q .y) × (q .y ≤ y₁)) l → enclosed l ≤ 2 * ((x₁ - x₀) * (y₁ - y₀))
+    fits [] up x₀ x₁ y₀ y₁ h = let z = line-enclosed [] (λ a b c m n o. absurd m) in omega arith
+    fits (a ∷ l) up x₀ x₁ y₀ y₁ h =
+        wider (enclosed (a ∷ l)) (a .x) x₀ x₁ (y₁ - y₀) (h .0 .0)
+        (enclosed-box a l x₁ y₀ y₁ up (λ q m. let k = all-among _ (a ∷ l) h q m in (first-least a q l (up .0) m .x-le, k .1, k .2, k .3)))

@@ -1,5 +1,5 @@
--- Location chain that goes on to points in ascending order has all of them on one side. Side a b q: q lies on that side of the line from a to b, or on it.
-use mathlib.Core.Path.{_≡_, refl, sym, ap, _∙_, subst}
+-- A chain that goes on to locations in ascending order has all of them on one side, whichever side it turns to. Side a b q: q lies on that side of the line from a to b, or on it.
+use mathlib.Core.Path.{_≡_, refl, sym, subst}
 use mathlib.Core.Logic.{_⊎_, inl, inr, ⊎-elim}
 use mathlib.Core.Bool.{Bool, true, false, cond}
 use mathlib.Core.List.{List, [], _∷_, reverseAux}
@@ -20,7 +20,7 @@ pub record Laws (Lt Le : Location → Location → Type 0) (Side : Location → 
   pub near : (s t p q : Location) → Lt s t → Lt t p → Le q t → Side s t q → Side s t p → Side t p q
   pub across : (t b p q : Location) → Lt t b → Lt t p → Le t q → Side t b q → Side t p b → Side t p q
 
--- each inner point of a chain is a turn
+-- a chain turns at each of its inner locations
 abbrev pub Bends : (Location → Location → Location → Bool) → List Location → Type 0
 Bends turn [] = Unit {0}
 Bends turn (c ∷ []) = Unit {0}
@@ -28,20 +28,20 @@ Bends turn (c ∷ b ∷ []) = Unit {0}
 Bends turn (c ∷ b ∷ a ∷ l) = (turn a b c ≡ true) × Bends turn (b ∷ a ∷ l)
 
 module _ (Lt Le : Location → Location → Type 0) (Side : Location → Location → Location → Type 0) (turn : Location → Location → Location → Bool) (law : Laws Lt Le Side turn) where
-  -- every point of d lies on the side of the edge from a to b
+  -- every location of d lies on the side of the edge from a to b
   abbrev Edge : List Location → Location → Location → Type 0
   Edge d b a = (q : Location) → Among q d → Side a b q
 
   abbrev Rise : Location → Location → Type 0
   Rise b a = Lt a b
 
-  -- the chain's first point is the least
+  -- the chain's first location is the least
   abbrev Base : List Location → List Location → Type 0
   Base d [] = Unit {0}
   Base d (b ∷ []) = (q : Location) → Among q d → Le b q
   Base d (b ∷ a ∷ r) = Base d (a ∷ r)
 
-  -- what holds of a chain s with the points d behind it
+  -- what holds of a chain s that has gone along the locations d
   pub record Holds (d s : List Location) : Type 0 where
     pub inside : (q : Location) → Among q s → Among q d
     pub rises : Steps Rise s
@@ -49,7 +49,7 @@ module _ (Lt Le : Location → Location → Type 0) (Side : Location → Locatio
     pub base : Base d s
     pub edges : Steps (Edge d) s
 
-  -- p lies on the side of each edge of the chain, the last two points of which are b and a
+  -- p lies on the side of each edge of the chain, the last two locations of which are b and a
   beyond : (p b a : Location) (r : List Location) → Lt b p → Side a b p → Steps Rise (b ∷ a ∷ r) → Bends turn (b ∷ a ∷ r) → ((q : Location) → Among q (a ∷ r) → Lt q p) → Steps (λ v u. Side u v p) (b ∷ a ∷ r)
   beyond p b a [] hb side rise bend below = (side, tt)
   beyond p b a (z ∷ r) hb side rise bend below =
@@ -142,7 +142,7 @@ module _ (Lt Le : Location → Location → Type 0) (Side : Location → Locatio
     edges = edges-more d p (p ∷ s) (h .last) (own p s (h .fresh));
   }
 
-  -- no point stands after the chain's last one
+  -- no location stands after the chain's last one
   abbrev pub Last : List Location → List Location → Type 0
   Last d [] = Unit {0}
   Last d (t ∷ r) = (q : Location) → Among q d → Le q t
@@ -161,7 +161,7 @@ module _ (Lt Le : Location → Location → Type 0) (Side : Location → Locatio
       both [] u v = tt
       both (z ∷ m) u v = (λ q k. ⊎-elim (λ e. subst (λ (w : Location). Lt w z) (sym e) (u .0)) (λ j. v .0 q j) k, both m (u .1) (v .1))
 
-  -- the chain of points in ascending order
+  -- the chain of locations in ascending order
   chain-both : (l : List Location) → Pairs Lt l → Holds (reverseAux l []) (extend turn [] l) × Last (reverseAux l []) (extend turn [] l)
   unfolding extend trim
   chain-both [] up = (record { inside = λ q m. m; rises = tt; bends = tt; base = tt; edges = tt }, tt)

@@ -1,22 +1,20 @@
--- The polygon turns left at every corner, unless all points are on one line.
-use Prim.Native.Nat.{ℕ, zero, suc, _+_, _*_, _-_, _≤_, _<_}
-use mathlib.Core.Path.{_≡_, refl, sym, ap, _∙_, subst}
+-- The polygon turns left at every corner, unless all locations are on one line.
+use Prim.Native.Nat.{_-_}
+use mathlib.Core.Path.{_≡_, refl, sym, subst}
 use mathlib.Core.Logic.{_⊎_, inl, inr, ⊎-elim}
 use mathlib.Core.Bool.{Bool, true, false}
 use lib.ListN.{drop}
 use mathlib.Core.List.{List, [], _∷_, reverseAux}
 use native.Mathlib.Omega.{arith}
-use lib.Dec.{ltb}
 use borrow.Author.Tests.{ltb-true, lt-ltb}
-use Rattle.model.specs.Lists.{All, Pairs, Steps, Among}
+use Rattle.model.specs.Lists.{Pairs, Steps, Among}
 use Rattle.model.specs.Point.{Location}
 use Rattle.model.specs.Polygon.{turnsLeft, turnsRight, lower, upper, polygon, enclosed, crossPlus, crossMinus, Left, Before, OneLine, Turns}
-use Rattle.laws.proofs.ListLaws.{all-among}
 use Rattle.laws.proofs.ChainLaws.{Bends, Last, chain-last, among-reverse}
-use Rattle.laws.proofs.SideLaws.{NotAfter, Right, left-next, weaken, lower-laws, upper-laws, line-through, line-to, last-flat, first-flat}
-use Rattle.laws.proofs.RingLaws.{Begins, Ends, Tops, tops, polygon-closed, none-outside, corners-among, polygon-moves, lower-holds, upper-holds, steps-imp}
+use Rattle.laws.proofs.SideLaws.{NotAfter, left-next, lower-laws, line-through, line-to, last-flat, first-flat}
+use Rattle.laws.proofs.RingLaws.{Tops, tops, none-outside, corners-among, polygon-moves, lower-edges, upper-edges, lower-rises, upper-rises, lower-bends, upper-bends}
 use Rattle.laws.proofs.AreaLaws.{line-enclosed}
-use Rattle.laws.proofs.FlatLaws.{turned, twice}
+use Rattle.laws.proofs.FlatLaws.{first-before, first-least}
 
 -- the last two elements
 abbrev pub EndsBy : Location → Location → List Location → Type 0
@@ -40,7 +38,7 @@ turns-reverse [] b c t h g = g
 turns-reverse (a ∷ s) b c t h g = turns-reverse s a b (c ∷ t) (h .1) (h .0, g)
 
 module _ (l : List Location) (some : enclosed l ≡ 0 → ⊥) where
-  -- at the last point
+  -- at the last location
   last-turn : (b c d : Location) → Before b c → Before d c → ((q : Location) → Among q l → NotAfter q c) → ((q : Location) → Among q l → Left b c q)
       → ((q : Location) → Among q l → Left c d q) → turnsLeft b c d ≡ true
   last-turn b c d bc dc after g h = go (turnsLeft b c d) refl
@@ -58,7 +56,7 @@ module _ (l : List Location) (some : enclosed l ≡ 0 → ⊥) where
       go true e = e
       go false e = absurd (some (line-enclosed l (flat e)))
 
-  -- at the first point
+  -- at the first location
   first-turn : (y a x : Location) → Before a x → Before a y → ((q : Location) → Among q l → NotAfter a q) → ((q : Location) → Among q l → Left a x q)
       → ((q : Location) → Among q l → Left y a q) → turnsLeft y a x ≡ true
   first-turn y a x ax ay after g h = go (turnsLeft y a x) refl
@@ -97,14 +95,11 @@ lower-last : (m : List Location) → Pairs Before m → Last Before NotAfter Lef
 unfolding lower
 lower-last m h = chain-last Before NotAfter Left turnsLeft lower-laws m h
 
--- (4) the polygon turns left at each corner between the first and the last of the polygon
+-- at each corner but the first
 pub polygon-turns : (l : List Location) → Pairs Before l → (enclosed l ≡ 0 → ⊥) → Turns (polygon l)
 unfolding polygon
 polygon-turns l up some =
-    both-turn l some (lower l) (upper l) (tops l)
-    (steps-imp _ _ (λ b a k q m. k q (among-reverse q l [] (inl m))) (lower l) (lower-holds l up .edges))
-    (steps-imp _ _ (λ b a k q m. k q (among-reverse q l [] (inl m))) (upper l) (upper-holds l up .edges))
-    (lower-holds l up .rises) (upper-holds l up .rises) (lower-holds l up .bends) (upper-holds l up .bends) (last-of (lower l) (lower-last l up))
+    both-turn l some (lower l) (upper l) (tops l) (lower-edges l up) (upper-edges l up) (lower-rises l up) (upper-rises l up) (lower-bends l up) (upper-bends l up) (last-of (lower l) (lower-last l up))
   where
     last-of : (s : List Location) → Last Before NotAfter Left turnsLeft lower-laws (reverseAux l []) s → Last Before NotAfter Left turnsLeft lower-laws l s
     last-of [] h = tt
@@ -122,16 +117,7 @@ end-among y a (b ∷ []) e = absurd e
 end-among y a (b ∷ c ∷ []) e = inl (sym (e .0))
 end-among y a (b ∷ c ∷ d ∷ l) e = inr (end-among y a (c ∷ d ∷ l) e)
 
--- of two places in order, the first point is the earlier
-first-before : (a v : Location) (l : List Location) → All (Before a) l → Among v (a ∷ l) → Before a v ⊎ Before v a → Before a v
-first-before a v l up m e =
-    ⊎-elim (λ g. g) (λ g. absurd (⊎-elim (λ k. twice a (subst (λ (t : Location). Before t a) k g)) (λ n. turned a v g (all-among (Before a) l up v n)) m)) e
-
-pub first-least : (a z : Location) (l : List Location) → All (Before a) l → Among z (a ∷ l) → NotAfter a z
-first-least a z l up m =
-    ⊎-elim (λ e. subst (λ (t : Location). NotAfter a t) (sym e) (record { x-le = omega arith; y-le = λ k. omega arith })) (λ n. weaken a z (all-among (Before a) l up z n)) m
-
--- and at the first corner, to which the polygon comes back from y and from which it goes to x
+-- at the first corner, to which the polygon comes back from y and from which it goes to x
 pub polygon-wraps : (a x y : Location) (l r : List Location) → Pairs Before (a ∷ l) → (enclosed (a ∷ l) ≡ 0 → ⊥) → polygon (a ∷ l) ≡ a ∷ x ∷ r → EndsBy y a (polygon (a ∷ l))
     → turnsLeft y a x ≡ true
 polygon-wraps a x y l r up some e end =

@@ -3,7 +3,7 @@
 use mathlib.Core.Path.{_≡_, refl, ap}
 use mathlib.Core.Logic.{_⊎_, inl, inr, ⊎-swap}
 use Prim.Native.Nat.{ℕ, _-_, _*_, _/_, _^_, _≤_, _<_, min, max}
-use native.Mathlib.Nat.{not-suc-le-zero, le-refl, le-of-mul-le-mul-right, le-div-iff-mul-le}
+use native.Mathlib.Nat.{le-refl, le-of-mul-le-mul-right, le-div-iff-mul-le}
 use native.Mathlib.Omega.{arith, min-cases, max-cases}
 use mathlib.Core.Bool.{Bool, true, false, cond}
 use mathlib.Core.List.{List, [], _∷_, map}
@@ -11,15 +11,14 @@ use lib.IntN.{ℤ, pos}
 use lib.ListN.{length, length-map}
 use lib.Signed.{leZ, _≤ℤ_}
 use Rattle.model.specs.Lists.{All, Some, through}
-use Rattle.model.specs.Point.{Location, Point, Contents, Extent, location, at}
+use Rattle.model.specs.Point.{Point, Contents, Extent, location, at}
 use Rattle.model.specs.Distance.{rootIn, root}
-use Rattle.model.specs.Polygon.{enclosed}
 use Rattle.model.specs.Radius.{locations, twiceArea, radiusOf, initialRadius}
 use Rattle.model.specs.Extent.{xs, ys, lesser, greater, valuesBy, zeros, extentOf, IsExtent, Shrinks}
 use Rattle.model.specs.Calls.{Drop, remove, refusal, accepted, after}
 use Rattle.model.specs.Invariant.{Invariant}
 use Rattle.laws.proofs.ListLaws.{all-imp, all-both, all-among, all-map, all-of-map}
-use Rattle.laws.proofs.ThroughLaws.{through-keeps, through-keeps-some, through-all, through-some}
+use Rattle.laws.proofs.ThroughLaws.{through-keeps-some, through-all, through-some}
 use Rattle.laws.proofs.ValueLaws.{least-all, greatest-all}
 use Rattle.laws.proofs.AreaBound.{enclosed-most}
 use Rattle.laws.proofs.RootLaws.{root-le-iff, radius-is}
@@ -54,10 +53,6 @@ module _ (f : Point → ℕ) (l : List Point) where
       (all-of-map (λ n. through 0 min numbers ≤ n) f l (through-all 0 min _≤_ (λ a. omega arith) (λ a b c h k. omega arith) (λ a b. omega arith) (λ a b. omega arith) numbers))
       (all-of-map (λ n. n ≤ through 0 max numbers) f l
       (through-all 0 max (λ a b. b ≤ a) (λ a. omega arith) (λ a b c h k. omega arith) (λ a b. omega arith) (λ a b. omega arith) numbers))
-
-pub least-greatest : (f : Point → ℕ) (l : List Point) → 0 < length l → through 0 min (map f l) ≤ through 0 max (map f l)
-least-greatest f [] h = absurd (not-suc-le-zero h)
-least-greatest f (a ∷ l) h = let g = all-between f (a ∷ l) .0 in omega (arith, g .0, g .1)
 
 some-map : {A : Type 0} (f : Point → A) (c : A) (l : List Point) → Some (λ b. b ≡ c) (map f l) → Some (λ a. f a ≡ c) l
 some-map f c [] h = h
@@ -100,17 +95,14 @@ radius-most a n h k =
     let m : 0 < 355 * n * 2 = omega arith in
     root-le-iff q (2 ^ 24) .1 (below q n a h (le-div-iff-mul-le m .0 (le-refl q)) k)
 
-pub max-most : (f : Point → ℕ) (l : List Point) → All (λ a. f a ≤ 4095) l → through 0 max (map f l) ≤ 4095
-max-most f l h = through-keeps 0 max (λ n. n ≤ 4095) (λ a b g k. omega arith) (map f l) (omega arith) (all-map (λ n. n ≤ 4095) f l h)
-
 -- the points enclose no more, in any order
 pub twice-most : (q : Contents) → All Inside (q .points) → twiceArea q ≤ length (q .points) * 33538050
 unfolding twiceArea
 twice-most q inside =
     let k =
-        enclosed-most 4095 (locations (q .points))
-        (all-among (λ b. (b .x ≤ 4095) × (b .y ≤ 4095)) (locations (q .points))
-        (all-map _ _ (q .points) (all-imp Inside _ (λ a h. (omega (arith, h .0), omega (arith, h .1))) (q .points) inside))) in
+    enclosed-most 4095 (locations (q .points))
+    (all-among (λ b. (b .x ≤ 4095) × (b .y ≤ 4095)) (locations (q .points))
+    (all-map _ _ (q .points) (all-imp Inside _ (λ a h. (omega (arith, h .0), omega (arith, h .1))) (q .points) inside))) in
     omega (arith, k, length-map (q .points) (λ (a : Point). location (a .x) (a .y)))
 
 pub kept-most : (q : Contents) → All Inside (q .points) → extentOf q .radius ≤ 2 ^ 24

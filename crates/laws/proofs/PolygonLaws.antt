@@ -1,21 +1,24 @@
 -- The polygon around locations that ascend is what document 02's sentences say: `polygon-is`.
 use mathlib.Core.Path.{_≡_, refl, sym, ap, _∙_, subst}
 use mathlib.Core.Logic.{_⊎_, inl, inr, ⊎-elim}
-use Prim.Native.Nat.{_<_, _≤_}
+use Prim.Native.Nat.{_<_}
 use native.Mathlib.Omega.{arith}
 use mathlib.Core.Bool.{true}
 use mathlib.Core.List.{List, [], _∷_, _++_, reverseAux}
 use lib.ListN.{length, take, drop}
+use lib.Dec.{ltb}
 use borrow.Author.Tests.{ltb-true}
 use Rattle.model.specs.Lists.{All, Among, Pairs, Steps}
-use Rattle.model.specs.Point.{Location}
-use Rattle.model.specs.Polygon.{crossPlus, crossMinus, turnsLeft, turnsRight, lower, upper, polygon, enclosed, Before, Left, OneLine, Turns, IsPolygon}
-use Rattle.laws.proofs.ListLaws.{all-imp, all-among}
+use Rattle.model.specs.Point.{Location, Point, location, precedes}
+use Rattle.model.specs.Radius.{locations}
+use Rattle.model.specs.Polygon.{crossPlus, crossMinus, turnsLeft, lower, upper, polygon, enclosed, Before, Left, OneLine, Turns, IsPolygon}
+use Rattle.laws.proofs.ListLaws.{all-any, all-imp, all-among, pairs-map, pairs-both}
+use Rattle.laws.proofs.PrecedesLaws.{lexical-true}
 use Rattle.laws.proofs.ChainLaws.{Bends}
 use Rattle.laws.proofs.SideLaws.{NotAfter, weaken, before-x, left-cofan, left-back, back-left, way-trans}
 use Rattle.laws.proofs.RingLaws.{Begins, Ends, Tops, tops, Long, polygon-closed, polygon-long, corners-among, none-outside, lower-rises, lower-bends, lower-edges, lower-among, upper-rises, upper-edges, upper-ends, upper-among}
-use Rattle.laws.proofs.FlatLaws.{twice, flat-only}
-use Rattle.laws.proofs.ConvexLaws.{EndsBy, first-least, polygon-turns, polygon-wraps}
+use Rattle.laws.proofs.FlatLaws.{twice, first-least, flat-only}
+use Rattle.laws.proofs.ConvexLaws.{EndsBy, polygon-turns, polygon-wraps}
 
 abbrev Apart : Location → Location → Type 0
 Apart a b = a ≡ b → ⊥
@@ -66,7 +69,7 @@ module _ (a : Location) (l : List Location) (up : Pairs Before (a ∷ l)) where
   abbrev On : Location → Type 0
   On q = Among q (a ∷ l)
 
-  -- nor is it any corner of the upper side's, down to the first
+  -- nor is it any corner of the upper side, down to the first location
   not-upper : (u p v q : Location) (t : List Location) → On u → On v → Before u p → Before p v → turnsLeft u p v ≡ true → ((o : Location) → On o → Left u p o)
       → Steps (λ w o. Before o w) (q ∷ t) → Steps (λ w o. (z : Location) → On z → Left w o z) (q ∷ t) → ((z : Location) → Among z (q ∷ t) → On z) → Ends a (q ∷ t)
       → All (Apart p) (q ∷ t)
@@ -195,3 +198,11 @@ polygon-is (a ∷ l) up = record {
   around = none-outside (a ∷ l) up;
   convex = polygon-convex a l up;
 }
+
+-- the points of every survey stand at locations that ascend
+pub locations-ascend : (l : List Point) → Pairs (λ a b. precedes a b ≡ true) l → Pairs Before (locations l)
+locations-ascend l h = pairs-map Before _ l (pairs-both _ _ (λ a. Unit {0}) (λ a b e _ _. by-numbers a b (lexical-true (a .x) (b .x) (ltb (a .y) (b .y)) e)) l h (all-any _ (λ a. tt) l))
+  where
+    by-numbers : (a b : Point) → (a .x < b .x) ⊎ ((a .x ≡ b .x) × (ltb (a .y) (b .y) ≡ true)) → Before (location (a .x) (a .y)) (location (b .x) (b .y))
+    by-numbers a b (inl g) = inl g
+    by-numbers a b (inr g) = inr (g .0, ltb-true (a .y) (b .y) (g .1))

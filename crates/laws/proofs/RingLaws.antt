@@ -1,16 +1,15 @@
--- What the polygon is: its corners are points of the list, it is closed, no point lies outside it, and its sides bend one way.
-use Prim.Native.Nat.{ℕ, _+_, _*_, _-_, _≤_, _<_}
-use mathlib.Core.Path.{_≡_, refl, sym, ap, _∙_, subst}
+-- The two sides joined to a ring: its corners are among the locations, it comes back to the first of them, no location lies outside it, and its sides bend one way.
+use Prim.Native.Nat.{_-_}
+use mathlib.Core.Path.{_≡_, refl, sym, subst}
 use mathlib.Core.Logic.{_⊎_, inl, inr, ⊎-elim}
 use mathlib.Core.Bool.{Bool, true, false, cond}
 use lib.ListN.{drop}
 use mathlib.Core.List.{List, [], _∷_, reverseAux}
-use native.Mathlib.Omega.{arith}
 use Rattle.model.specs.Lists.{Pairs, Steps, Among}
 use Rattle.model.specs.Point.{Location}
 use Rattle.model.specs.Polygon.{trim, extend, turnsLeft, turnsRight, lower, upper, polygon, Left, Before}
-use Rattle.laws.proofs.ChainLaws.{Laws, Holds, Bends, chain-holds, among-reverse, reverse-among}
-use Rattle.laws.proofs.SideLaws.{NotAfter, Right, left-next, lower-laws, upper-laws}
+use Rattle.laws.proofs.ChainLaws.{Holds, Bends, chain-holds, among-reverse, reverse-among}
+use Rattle.laws.proofs.SideLaws.{NotAfter, Right, lower-laws, upper-laws}
 
 -- the list begins or ends with an element
 abbrev pub Begins : {A : Type 0} → A → List A → Type 0
@@ -40,7 +39,7 @@ module _ (f : Location → Location → Location → Bool) where
       go true ih k = k
       go false ih k = inr (ih k)
 
-  pub extend-among : (q : Location) (l s : List Location) → Among q (extend f s l) → Among q s ⊎ Among q l
+  extend-among : (q : Location) (l s : List Location) → Among q (extend f s l) → Among q s ⊎ Among q l
   unfolding extend
   extend-among q [] s m = inl m
   extend-among q (p ∷ l) s m = ⊎-elim (λ k. ⊎-elim (λ e. inr (inl e)) (λ j. inl (trim-among q p s j)) k) (λ k. inr (inr k)) (extend-among q l (p ∷ trim f s p) m)
@@ -59,7 +58,7 @@ module _ (f : Location → Location → Location → Bool) where
       go true ih = h
       go false ih = ih
 
-  pub extend-ends : (z : Location) (l s : List Location) → Ends z s → Ends z (extend f s l)
+  extend-ends : (z : Location) (l s : List Location) → Ends z s → Ends z (extend f s l)
   unfolding extend
   extend-ends z [] s h = h
   extend-ends z (p ∷ l) s h = extend-ends z l (p ∷ trim f s p) (ends-more z p (trim f s p) (trim-ends z p s h))
@@ -91,7 +90,7 @@ module _ {A : Type 0} where
   steps-imp P Q f (a ∷ []) h = tt
   steps-imp P Q f (a ∷ b ∷ l) h = (f a b (h .0), steps-imp P Q f (b ∷ l) (h .1))
 
-  -- two chains from one point to another, joined
+  -- two chains from one location to another, joined
   joined : (P : A → A → Type 0) (s t : List A) → Tops s t → Steps (λ b a. P a b) s → Steps P t → Steps P (reverseAux (drop 1 s) t)
   joined P [] [] e g h = h
   joined P [] (b ∷ t) e g h = absurd e
@@ -107,7 +106,7 @@ tail-among : {A : Type 0} (q : A) (s : List A) → Among q (drop 1 s) → Among 
 tail-among q [] m = m
 tail-among q (a ∷ s) m = inr m
 
--- (1) each corner is a point of the list, whatever its order
+-- each corner is among the locations, in whatever order they stand
 pub corners-among : (l : List Location) (q : Location) → Among q (polygon l) → Among q l
 unfolding polygon lower upper
 corners-among l q m =
@@ -133,7 +132,7 @@ pub upper-among : (l : List Location) (q : Location) → Among q (upper l) → A
 unfolding upper
 upper-among l q m = ⊎-elim (λ k. absurd k) (λ k. k) (extend-among turnsRight q l [] m)
 
--- the corners go from the first point round to it
+-- the corners go from the first location round to it
 pub record Closed (a : Location) (l : List Location) : Type 0 where
   pub begins : Begins a l
   pub ends : Ends a l
@@ -161,7 +160,7 @@ pub upper-holds : (l : List Location) → Pairs Before l → Holds Before NotAft
 unfolding upper
 upper-holds l h = chain-holds Before NotAfter Right turnsRight upper-laws l h
 
--- (2) no point lies outside: every point lies on each side's line or left of it
+-- no location lies outside: each lies left of every edge, or on its line
 pub lower-edges : (l : List Location) → Pairs Before l → Steps (λ b a. (q : Location) → Among q l → Left a b q) (lower l)
 lower-edges l h = steps-imp _ _ (λ b a k q m. k q (among-reverse q l [] (inl m))) (lower l) (lower-holds l h .edges)
 
@@ -172,7 +171,7 @@ pub none-outside : (l : List Location) → Pairs Before l → Steps (λ a b. (q 
 unfolding polygon
 none-outside l h = joined (λ (a b : Location). (q : Location) → Among q l → Left a b q) (lower l) (upper l) (tops l) (lower-edges l h) (upper-edges l h)
 
--- (4) the lower side turns left at each inner corner, the upper one right, and both go from left to right
+-- the lower side turns left at each inner corner, the upper one right, and both ascend
 pub lower-bends : (l : List Location) → Pairs Before l → Bends turnsLeft (lower l)
 lower-bends l h = lower-holds l h .bends
 
@@ -231,7 +230,7 @@ pub polygon-long : (a b : Location) (l : List Location) → Long (polygon (a ∷
 unfolding polygon upper extend trim
 polygon-long a b l = long-reverse (drop 1 (lower (a ∷ b ∷ l))) (upper (a ∷ b ∷ l)) (extend-long turnsRight l (b ∷ a ∷ []) tt)
 
--- each corner stands at another place than the next
+-- each corner is at another location than the next
 pub polygon-moves : (l : List Location) → Pairs Before l → Steps (λ a b. Before a b ⊎ Before b a) (polygon l)
 unfolding polygon
 polygon-moves l h =

@@ -1,18 +1,16 @@
--- Left and right turns among points in order.
+-- Left and right turns among locations in order: what a chain's proof needs of the lower side (`lower-laws`) and of the upper one (`upper-laws`), and what follows where there is no turn.
 use Prim.Native.Nat.{ℕ, zero, suc, _+_, _*_, _-_, _≤_, _<_}
-use mathlib.Core.Path.{_≡_, refl, sym, ap, _∙_}
+use mathlib.Core.Path.{_≡_, refl, ap}
 use mathlib.Core.Logic.{_⊎_, inl, inr, ⊎-elim}
-use mathlib.Core.Bool.{Bool, true, false}
-use native.Mathlib.Nat.{mul-le-mul-right, le-of-mul-le-mul-right, mul-pos, add-sub-of-le}
+use native.Mathlib.Nat.{mul-le-mul-right, le-of-mul-le-mul-right}
 use native.Mathlib.Decide.{decLe}
 use native.Mathlib.Omega.{arith}
-use lib.Dec.{ltb}
 use borrow.Author.Tests.{ltb-true, ltb-false}
 use Rattle.model.specs.Point.{Location}
 use Rattle.model.specs.Polygon.{turnsLeft, turnsRight, crossPlus, crossMinus, Left, Before}
 use Rattle.laws.proofs.ChainLaws.{Laws}
 
--- A vector with the x difference u and the y difference p - m; Turn u v: v lies on or left of u.
+-- A vector with the x difference ux and the y difference up - um; Turn u v: v points along u, or left of it.
 abbrev Turn : ℕ → ℕ → ℕ → ℕ → ℕ → ℕ → Type 0
 Turn ux up um vx vp vm = up * vx + ux * vm ≤ um * vx + ux * vp
 
@@ -82,7 +80,7 @@ cofan-from sx sy qx qy ty u z e h =
     let e₃ : (sx + u) * sy ≡ (qx + z) * sy = ap (λ t. t * sy) e in
     omega arith
 
--- from a place to another: x does not fall, and where it stays, y does not fall
+-- from a location to another: x does not fall, and where it stays, y does not fall
 pub record NotAfter (a b : Location) : Type 0 where
   pub x-le : a .x ≤ b .x
   pub y-le : a .x ≡ b .x → a .y ≤ b .y
@@ -94,34 +92,34 @@ before-y : (a b : Location) → Before a b → a .x ≡ b .x → a .y < b .y
 before-y a b h e = ⊎-elim (λ k. absurd (omega arith)) (λ k. k .1) h
 
 -- the x differences, as sums
-gap : (m n : ℕ) → m ≤ n → n ≡ m + (n - m)
-gap m n h = omega arith
+pub as-sum : (m n : ℕ) → m ≤ n → n ≡ m + (n - m)
+as-sum m n h = omega arith
 
 left-fan : (a b c : Location) → a .x ≤ b .x → a .x ≤ c .x → Left a b c → Way a b a c
 left-fan a b c g h k =
     fan-to (a .y) (b .y) (c .y) (a .x) (b .x - a .x) (c .x - a .x)
-    (rw (← gap (a .x) (b .x) g, ← gap (a .x) (c .x) h) (k .le))
+    (rw (← as-sum (a .x) (b .x) g, ← as-sum (a .x) (c .x) h) (k .le))
 
 fan-left : (a b c : Location) → a .x ≤ b .x → a .x ≤ c .x → Way a b a c → Left a b c
 fan-left a b c g h k =
-    record { le = rw (← gap (a .x) (b .x) g, ← gap (a .x) (c .x) h) at (fan-from (a .y) (b .y) (c .y) (a .x) (b .x - a .x) (c .x - a .x) k) }
+    record { le = rw (← as-sum (a .x) (b .x) g, ← as-sum (a .x) (c .x) h) at (fan-from (a .y) (b .y) (c .y) (a .x) (b .x - a .x) (c .x - a .x) k) }
 
 module _ (a b c : Location) (g : a .x ≤ b .x) (h : b .x ≤ c .x) where
   left-chain : Left a b c → Way a b b c
-  left-chain k = chain-to (a .y) (b .y) (c .y) (a .x) (b .x - a .x) (c .x - b .x) (rw (← gap (a .x) (b .x) g, ← gap (b .x) (c .x) h) (k .le))
+  left-chain k = chain-to (a .y) (b .y) (c .y) (a .x) (b .x - a .x) (c .x - b .x) (rw (← as-sum (a .x) (b .x) g, ← as-sum (b .x) (c .x) h) (k .le))
 
   chain-left : Way a b b c → Left a b c
-  chain-left k = record { le = rw (← gap (a .x) (b .x) g, ← gap (b .x) (c .x) h) at (chain-from (a .y) (b .y) (c .y) (a .x) (b .x - a .x) (c .x - b .x) k) }
+  chain-left k = record { le = rw (← as-sum (a .x) (b .x) g, ← as-sum (b .x) (c .x) h) at (chain-from (a .y) (b .y) (c .y) (a .x) (b .x - a .x) (c .x - b .x) k) }
 
   pub left-back : Left b a c → Way b c a b
-  left-back k = back-to (a .y) (b .y) (c .y) (a .x) (b .x - a .x) (c .x - b .x) (rw (← gap (a .x) (b .x) g, ← gap (b .x) (c .x) h) (k .le))
+  left-back k = back-to (a .y) (b .y) (c .y) (a .x) (b .x - a .x) (c .x - b .x) (rw (← as-sum (a .x) (b .x) g, ← as-sum (b .x) (c .x) h) (k .le))
 
   pub back-left : Way b c a b → Left b a c
-  back-left k = record { le = rw (← gap (a .x) (b .x) g, ← gap (b .x) (c .x) h) at (back-from (a .y) (b .y) (c .y) (a .x) (b .x - a .x) (c .x - b .x) k) }
+  back-left k = record { le = rw (← as-sum (a .x) (b .x) g, ← as-sum (b .x) (c .x) h) at (back-from (a .y) (b .y) (c .y) (a .x) (b .x - a .x) (c .x - b .x) k) }
 
 pub left-cofan : (s t q : Location) → s .x ≤ t .x → q .x ≤ t .x → Left s t q → Way q t s t
 left-cofan s t q g h k =
-    cofan-to (s .x) (s .y) (q .x) (q .y) (t .y) (t .x - s .x) (t .x - q .x) (omega arith) (rw (← gap (s .x) (t .x) g) (k .le))
+    cofan-to (s .x) (s .y) (q .x) (q .y) (t .y) (t .x - s .x) (t .x - q .x) (omega arith) (rw (← as-sum (s .x) (t .x) g) (k .le))
 
 -- the same three, from another one on
 pub left-next : (a b c : Location) → Left a b c → Left b c a
@@ -147,7 +145,7 @@ order a b = elim (decLe (a .x) (b .x)) [
   | no g ↦ inr (inl (omega arith))
 ]
 
--- a and b are one place
+-- a and b are one location
 same-left : (a b p : Location) → NotAfter a b → NotAfter b a → (Left a p b) × (Left p a b)
 same-left a b p g h =
     let u = g .x-le in
@@ -226,7 +224,7 @@ upper-laws = record {
       left-next q p t (left-next t q p (fan-left t q p x₃ x₂ (way-trans t q t b t p tb (weaken t p tp) (left-fan t q b x₃ x₁ (left-next b t q g)) (left-fan t b p x₁ x₂ (left-next p t b h)))));
 }
 
--- what lies on the line through two places
+-- what lies on the line through two locations
 pub line-through : (a v p q : Location) → Before a v → NotAfter a p → NotAfter a q → crossPlus a v p ≡ crossMinus a v p → crossPlus a v q ≡ crossMinus a v q → crossPlus a p q ≡ crossMinus a p q
 line-through a v p q av ap aq e f =
     let x₁ = before-x a v av in
@@ -242,9 +240,9 @@ line-through a v p q av ap aq e f =
 
 cofan-left : (s t q : Location) → s .x ≤ t .x → q .x ≤ t .x → Way q t s t → Left s t q
 cofan-left s t q g h k =
-    record { le = rw (← gap (s .x) (t .x) g) at (cofan-from (s .x) (s .y) (q .x) (q .y) (t .y) (t .x - s .x) (t .x - q .x) (omega arith) k) }
+    record { le = rw (← as-sum (s .x) (t .x) g) at (cofan-from (s .x) (s .y) (q .x) (q .y) (t .y) (t .x - s .x) (t .x - q .x) (omega arith) k) }
 
--- the same, on the line from a place on to the last one
+-- the same, on the line from a location on to the last one
 pub line-to : (x c p q : Location) → Before x c → NotAfter p c → NotAfter q c → crossPlus x c p ≡ crossMinus x c p → crossPlus x c q ≡ crossMinus x c q → crossPlus c p q ≡ crossMinus c p q
 line-to x c p q xc pc qc e f =
     let x₁ = before-x x c xc in
@@ -256,7 +254,7 @@ line-to x c p q xc pc qc e f =
     let h = one q p qc pc f e .le in
     omega arith
 
--- no turn at the last point: all that the two sides there hold is on one line
+-- no turn at the last location: all that lies between the two edges there is on one line
 pub last-flat : (x y c q : Location) → Before x c → Before y c → NotAfter q c → Left y c x → Left x c q → Left c y q → crossPlus x c q ≡ crossMinus x c q
 last-flat x y c q xc yc qc no-turn g h =
     let x₁ = before-x x c xc in
@@ -266,7 +264,7 @@ last-flat x y c q xc yc qc no-turn g h =
     let m = g .le in
     omega arith
 
--- and at the first
+-- and at the first location
 pub first-flat : (x y a q : Location) → Before a x → Before a y → NotAfter a q → Left a y x → Left a x q → Left y a q → crossPlus a x q ≡ crossMinus a x q
 first-flat x y a q ax ay aq no-turn g h =
     let x₁ = before-x a x ax in

@@ -2,7 +2,7 @@
 -- It goes along the locations as they stand; that it is the polygon, of locations that ascend by x, then y, as those of every survey do, is `polygon-is` of the crate laws.
 use Prim.Native.Nat.{ℕ, _+_, _-_, _*_, _≤_, _<_}
 use mathlib.Core.Path.{_≡_}
-use mathlib.Core.Logic.{_⊎_}
+use mathlib.Core.Logic.{_⊎_, _↔_}
 use mathlib.Core.Bool.{Bool, true, cond}
 use mathlib.Core.List.{List, [], _∷_, _++_, reverse, reverseAux}
 use lib.Dec.{ltb}
@@ -100,3 +100,8 @@ pub record IsPolygon (l w : List Location) : Type 0 where
   pub around : Steps (λ a b. (q : Location) → Among q l → Left a b q) w
   -- unless all are on one line, it turns left at every corner, the one where it closes among them
   pub convex : (OneLine l → ⊥) → Turns (w ++ take 1 (drop 1 w))
+
+-- and of twice the area a that the locations l enclose: zero exactly where all are on one line, and at most that of an upright rectangle around them: `area-is` of the crate laws
+pub record IsArea (l : List Location) (a : ℕ) : Type 0 where
+  pub flat : (a ≡ 0) ↔ OneLine l
+  pub most : (x₀ x₁ y₀ y₁ : ℕ) → All (λ q. (x₀ ≤ q .x) × (q .x ≤ x₁) × (y₀ ≤ q .y) × (q .y ≤ y₁)) l → a ≤ 2 * ((x₁ - x₀) * (y₁ - y₀))

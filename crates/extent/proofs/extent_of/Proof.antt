@@ -1,7 +1,7 @@
--- `extent_of` meets its contract: the ends of the points, and R0 by them.
+-- `extent_of` meets its contract: the ends of the points, and R0 by twice the area that they enclose.
 use native.Mathlib.Omega.{arith}
 use borrow.Author.Needs.{needs}
-use Rattle.extent.proofs.Ends.{extent-none, across, up, small, extent-some}
+use Rattle.extent.proofs.Ends.{extent-none, small, extent-some}
 use Rattle.extent.proofs.extent_of.Statement.{statement}
 use Rattle.extent.proofs.extent_of.Tie as tie
 
@@ -17,28 +17,18 @@ returns c = (extent-none _ _ _ _ _ (c .before .before .clamped .ensures) _ (c .b
 ends-of-requires : tie.Need-ends-of-requires
 ends-of-requires c κs = search needs
 
-sub-wide : tie.Need-sub-wide
-sub-wide c = let m = c .before .before .before in across _ _ _ _ _ (m .clamped .ensures) (omega arith) _ (c .before .ends-of .ensures) .0
-
-cast-wide : tie.Need-cast-wide
-cast-wide c = search needs
-
-sub-high : tie.Need-sub-high
-sub-high c = let m = c .before .before .before .before in up _ _ _ _ _ (m .clamped .ensures) (omega arith) _ (c .before .before .ends-of .ensures) .0
-
-cast-high : tie.Need-cast-high
-cast-high c = search needs
-
-mul-radius-of : tie.Need-mul-radius-of
-mul-radius-of c = let m = c .before .before .before .before in let h = small _ _ _ _ _ (m .clamped .ensures) (omega arith) _ (c .before .before .ends-of .ensures) in omega arith
+enclosed-requires : tie.Need-enclosed-requires
+enclosed-requires c κs = search needs
 
 radius-of-requires : tie.Need-radius-of-requires
-radius-of-requires c κs = let m = c .before .before .before .before in let h = small _ _ _ _ _ (m .clamped .ensures) (omega arith) _ (c .before .before .ends-of .ensures) in (omega arith, omega arith, omega (arith, m .clamped .ensures))
+radius-of-requires c κs =
+    let m = c .before .before .before in
+    (small _ _ _ _ _ (m .clamped .ensures) (omega arith) _ (c .before .ends-of .ensures) _ (c .enclosed .ensures), omega arith, omega (arith, m .clamped .ensures))
 
 returns-2 : tie.Need-returns-2
 returns-2 c =
-    let m = c .before .before .before .before .before in
-    extent-some _ _ _ _ _ (m .clamped .ensures) (omega arith) _ (c .before .before .before .ends-of .ensures) _ (c .radius-of .ensures .0)
+    let m = c .before .before .before .before in
+    extent-some _ _ _ _ _ (m .clamped .ensures) (omega arith) _ (c .before .before .ends-of .ensures) _ _ (c .before .enclosed .ensures) (c .radius-of .ensures .0)
 
 pub extent-of-spec : {M : Type 1} → statement M
 extent-of-spec =
@@ -48,10 +38,6 @@ extent-of-spec =
     zeros-requires
     returns
     ends-of-requires
-    sub-wide
-    cast-wide
-    sub-high
-    cast-high
-    mul-radius-of
+    enclosed-requires
     radius-of-requires
     returns-2)

@@ -69,10 +69,14 @@ loop-again c =
     let l = c .before .before .before .before .before .before .before .before .loop in
     let sx : length (l .sx) ≡ 256 = l .inv .2 in
     let sy : length (l .sy) ≡ 256 = l .inv .3 in
-    let k : c .staying .result ≤ l .depth = c .staying .ensures .0 in
-    (omega arith, omega arith, simp length-set sx, simp length-set sy,
-    side-more _ _ _ _ _ (l .i) (l .depth) (c .staying .result) _ _ (omega arith) (omega arith) (omega arith)
-    (c .before .before .before .before .before .coordinate .ensures) (c .before .before .before .coordinate2 .ensures) (c .staying .ensures .1) (l .inv .4))
+    let k : c .staying .result ≤ l .depth = c .staying .ensures .0 in (
+      omega arith,
+      omega arith,
+      simp length-set sx,
+      simp length-set sy,
+      side-more _ _ _ _ _ (l .i) (l .depth) (c .staying .result) _ _ (omega arith) (omega arith) (omega arith)
+          (c .before .before .before .before .before .coordinate .ensures) (c .before .before .before .coordinate2 .ensures) (c .staying .ensures .1) (l .inv .4),
+    )
 
 returns : tie.Need-returns Inv-loop μ-loop
 returns c =

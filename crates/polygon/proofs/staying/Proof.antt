@@ -1,7 +1,7 @@
 -- `staying` meets its contract. The loop's invariant: of the first k corners the same stay.
 use borrow.Author.Needs.{needs}
-use Prim.Native.Nat.{_≤_, _*_, _-_}
-use mathlib.Core.Path.{_≡_, refl, _∙_}
+use Prim.Native.Nat.{_≤_, _-_}
+use mathlib.Core.Path.{_≡_, _∙_}
 use native.Mathlib.Omega.{arith}
 use Rattle.model.specs.Polygon.{trim}
 use Rattle.model.specs.Point.{location}

@@ -1,4 +1,4 @@
--- `radius_of` meets its contract. The quotient is below 2^50, since its divisor is at least 355.
+-- `radius_of` meets its contract. The quotient is below 2^50, since its divisor is at least 710.
 use Prim.Native.Nat.{ℕ, _*_, _/_, _^_, _<_}
 use native.Mathlib.Nat.{div-lt-iff-lt-mul}
 use native.Mathlib.Omega.{arith}
@@ -16,6 +16,9 @@ mul-root-of c = search needs
 mul-root-of-2 : tie.Need-mul-root-of-2
 mul-root-of-2 c = search needs
 
+mul-root-of-3 : tie.Need-mul-root-of-3
+mul-root-of-3 c = search needs
+
 div-root-of : tie.Need-div-root-of
 div-root-of c = search needs
 
@@ -28,4 +31,4 @@ returns c = c .root-of .ensures
 
 pub radius-of-spec : {M : Type 1} → statement M
 radius-of-spec =
-    tie.close (tie.spec mul-root-of mul-root-of-2 div-root-of root-of-requires returns)
+    tie.close (tie.spec mul-root-of mul-root-of-2 mul-root-of-3 div-root-of root-of-requires returns)
