@@ -23,7 +23,8 @@ enclosed-requires c κs = search needs
 radius-of-requires : tie.Need-radius-of-requires
 radius-of-requires c κs =
     let m = c .before .before .before in
-    (small _ _ _ _ _ (m .clamped .ensures) (omega arith) _ (c .before .ends-of .ensures) _ (c .enclosed .ensures), omega arith, omega (arith, m .clamped .ensures))
+    let h = small _ _ _ _ _ (m .clamped .ensures) (omega arith) _ (c .before .ends-of .ensures) _ (c .enclosed .ensures) in
+    (omega arith, omega arith, omega (arith, m .clamped .ensures))
 
 returns-2 : tie.Need-returns-2
 returns-2 c =
