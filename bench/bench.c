@@ -4,7 +4,8 @@
  *   bench repeat POINTS N  4,096 random lookups of the library in a random survey of so many points, N times; prints nothing
  *   bench grid POINTS N    the grid file of 64 by 64 over the domain in such a survey, N times; prints nothing
  *   bench text POINTS N    the same as an Esri ASCII grid
- *   bench time ROUNDS      the table: nanoseconds a lookup, milliseconds a grid of 64 by 64; the best of ROUNDS, the variants in turn
+ *   bench time ROUNDS      the tables: nanoseconds a lookup, milliseconds a grid of 64 by 64, nanoseconds to work out R0; the best of ROUNDS, the
+ *                          variants in turn
  */
 #include "reference.h"
 #include "shepard.h"
@@ -21,7 +22,25 @@ static uint32_t draw(uint32_t below) {
     return (uint32_t)(((v ^ v >> 31) >> 32) * below >> 32);
 }
 
-enum Shape { UNIFORM, DIAGONAL, TIGHT }; /* over the domain; along x = y; within 32 by 32 */
+/* over the domain; up to 255 above x = y; within 32 by 32; on one slanted line; 16 by 16 locations of a lattice */
+enum Shape { UNIFORM, DIAGONAL, TIGHT, LINE, LATTICE, SHAPES };
+
+typedef struct { int x, y; } Location;
+
+/* Of a line, rising or falling, 272 of which stay in the domain, or of a lattice. */
+static Location step_draw(enum Shape shape) {
+    int x = shape == LINE ? 1 + (int)draw(15) : 1 << draw(9), y = shape == LINE ? 1 + (int)draw(15) : 1 << draw(9);
+    return (Location){x, shape == LINE && draw(2) ? -y : y};
+}
+
+static Location location_draw(enum Shape shape, Location step) {
+    static const uint32_t columns[SHAPES] = {[UNIFORM] = DOMAIN, [DIAGONAL] = DOMAIN - 255, [TIGHT] = 32, [LINE] = 273, [LATTICE] = 16};
+    static const uint32_t rows[SHAPES] = {[UNIFORM] = DOMAIN, [DIAGONAL] = 256, [TIGHT] = 32, [LINE] = 1, [LATTICE] = 16};
+    int i = (int)draw(columns[shape]), j = (int)draw(rows[shape]);
+    if (shape == LINE) return (Location){i * step.x, (step.y < 0 ? DOMAIN - 1 : 0) + i * step.y};
+    if (shape == LATTICE) return (Location){i * step.x, j * step.y};
+    return (Location){i, shape == DIAGONAL ? i + j : j};
+}
 
 static int ascending(const void *a, const void *b) {
     uint32_t l = *(const uint32_t *)a, r = *(const uint32_t *)b;
@@ -30,11 +49,11 @@ static int ascending(const void *a, const void *b) {
 
 static void survey_draw(Survey *s, int n, enum Shape shape) {
     uint32_t location[MAX_POINTS];
+    Location step = shape < LINE ? (Location){0, 0} : step_draw(shape);
     memset(s, 0, sizeof *s);
     for (int i = 0; i < n;) {
-        uint32_t x = draw(shape == TIGHT ? 32 : DOMAIN), y = draw(shape == TIGHT ? 32 : DOMAIN);
-        if (shape == DIAGONAL) y = (x + y / 16) & (DOMAIN - 1);
-        uint32_t p = x << 16 | y;
+        Location at = location_draw(shape, step);
+        uint32_t p = (uint32_t)at.x << 16 | (uint32_t)at.y;
         int taken = 0;
         for (int j = 0; j < i; j++) taken |= location[j] == p;
         if (!taken) location[i++] = p;
@@ -83,11 +102,6 @@ static void form(const Survey *s, const File *f, const Locations *l, Answer *out
     for (int i = 0; i < l->count; i++) out[i] = lookup_form(*s, l->x[i], l->y[i]);
 }
 
-static void rank_form(const Survey *s, const File *f, const Locations *l, Answer *out) {
-    (void)f;
-    for (int i = 0; i < l->count; i++) out[i] = lookup_rank_form(*s, l->x[i], l->y[i]);
-}
-
 static void kept(const Survey *s, const File *f, const Locations *l, Answer *out) {
     (void)f;
     for (int i = 0; i < l->count; i++) out[i] = lookup_kept(*s, l->x[i], l->y[i]);
@@ -134,23 +148,28 @@ static void draw_locations(Locations *l, int n, uint32_t below) {
     }
 }
 
+/* What locations are drawn below, so that all points and 8 steps around them are met. */
+static uint32_t side_of(const Survey *s) {
+    uint32_t most = s->x[s->count - 1];
+    for (int i = 0; i < s->count; i++) most = s->y[i] > most ? s->y[i] : most;
+    return most + 9 < DOMAIN ? most + 9 : DOMAIN;
+}
+
 static int agree(int surveys) {
-    static Answer a[LOCATIONS], b[LOCATIONS], c[LOCATIONS], d[LOCATIONS];
+    static Answer a[LOCATIONS], b[LOCATIONS], c[LOCATIONS];
     static Locations l;
     long lookups = 0, differing = 0;
     seed = 1;
     for (int i = 0; i < surveys; i++) {
         Survey s;
         File f;
-        survey_draw(&s, 1 + (int)draw(MAX_POINTS), (enum Shape)(i % 3));
+        survey_draw(&s, 1 + (int)draw(MAX_POINTS), (enum Shape)(i % SHAPES));
         file_of(&s, &f);
-        draw_locations(&l, 256, i % 3 == TIGHT ? 40 : DOMAIN);
+        draw_locations(&l, 256, side_of(&s));
         form(&s, &f, &l, a);
-        rank_form(&s, &f, &l, b);
-        kept(&s, &f, &l, c);
-        proved(&s, &f, &l, d);
-        for (int j = 0; j < l.count; j++, lookups++)
-            differing += memcmp(&a[j], &b[j], sizeof *a) != 0 || memcmp(&a[j], &c[j], sizeof *a) != 0 || memcmp(&a[j], &d[j], sizeof *a) != 0;
+        kept(&s, &f, &l, b);
+        proved(&s, &f, &l, c);
+        for (int j = 0; j < l.count; j++, lookups++) differing += memcmp(&a[j], &b[j], sizeof *a) != 0 || memcmp(&a[j], &c[j], sizeof *a) != 0;
     }
     printf("agree: %ld lookups, %ld differ\n", lookups, differing);
     return differing != 0;
@@ -188,7 +207,7 @@ static double now(void) {
     return 1e9 * (double)t.tv_sec + (double)t.tv_nsec;
 }
 
-enum { CASES = 8, VARIANTS = 4 };
+enum { CASES = 8, VARIANTS = 3, RADII = 64 };
 
 static void best(double *least, double began) {
     double t = now() - began;
@@ -201,70 +220,99 @@ static void print_row(const char *name, double times[CASES][VARIANTS], int v) {
     printf("\n");
 }
 
-static double lesser(double a, double b) { return a < b ? a : b; }
-
-/* Proved over the lesser of v and w. */
-static void print_ratios(const char *name, double times[CASES][VARIANTS], int v, int w) {
+/* The last variant over another. */
+static void print_ratios(const char *name, double times[CASES][VARIANTS], int v) {
     printf("%-36s", name);
-    for (int c = 0; c < CASES; c++) printf("%s%8.2f", c == 4 ? "  " : "", times[c][3] / lesser(times[c][v], times[c][w]));
+    for (int c = 0; c < CASES; c++) printf("%s%8.2f", c == 4 ? "  " : "", times[c][VARIANTS - 1] / times[c][v]);
     printf("\n");
 }
 
-static void times(int rounds) {
-    static const int counts[] = {5, 50, 200, 256};
-    static Lookups *const variants[VARIANTS] = {form, rank_form, kept, proved};
-    static double least[CASES][VARIANTS], grid[2][4];
-    static Survey surveys[CASES];
-    static File files[CASES];
-    static Locations random, square;
+static void time_lookups(int rounds, const Survey *surveys, const File *files) {
+    static Lookups *const variants[VARIANTS] = {form, kept, proved};
+    static double least[CASES][VARIANTS];
+    static Locations random;
     static Answer out[LOCATIONS];
-    seed = 3;
-    for (int c = 0; c < CASES; c++) {
-        survey_draw(&surveys[c], counts[c % 4], c < 4 ? UNIFORM : DIAGONAL);
-        file_of(&surveys[c], &files[c]);
+    for (int c = 0; c < CASES; c++)
         for (int v = 0; v < VARIANTS; v++) least[c][v] = 1e18;
-    }
-    for (int i = 0; i < 2; i++) grid[i][0] = grid[i][1] = grid[i][2] = grid[i][3] = 1e18;
     draw_locations(&random, LOCATIONS, DOMAIN);
-    grid_locations(&square);
-    for (int r = 0; r < rounds; r++) {
+    for (int r = 0; r < rounds; r++)
         for (int c = 0; c < CASES; c++)
             for (int v = 0; v < VARIANTS; v++) {
                 double began = now();
                 variants[v](&surveys[c], &files[c], &random, out);
                 best(&least[c][v], began);
             }
-        for (int i = 0; i < 2; i++) {
-            double began = now();
-            rank_form(&surveys[2 + 4 * i], &files[2 + 4 * i], &square, out);
-            best(&grid[i][0], began);
-            began = now();
-            kept(&surveys[2 + 4 * i], &files[2 + 4 * i], &square, out);
-            best(&grid[i][1], began);
-            began = now();
-            proved_grid(&files[2 + 4 * i]);
-            best(&grid[i][2], began);
-            began = now();
-            proved_text(&files[2 + 4 * i]);
-            best(&grid[i][3], began);
-        }
-    }
     printf("%-36s%8d%8d%8d%8d  %8d%8d%8d%8d\n", "ns a lookup; points:", 5, 50, 200, 256, 5, 50, 200, 256);
     printf("%-36s%8s%26s%8s\n", "", "uniform", "", "diagonal");
     print_row("form", least, 0);
-    print_row("rank-form", least, 1);
-    print_row("kept", least, 2);
-    print_row("proved", least, 3);
-    print_ratios("proved / lesser of form, rank-form", least, 0, 1);
-    print_ratios("proved / kept", least, 2, 2);
+    print_row("kept", least, 1);
+    print_row("proved", least, 2);
+    print_ratios("proved / form", least, 0);
+    print_ratios("proved / kept", least, 1);
+}
+
+/* Of 200 points: form, kept, the library's grid file, and its Esri ASCII grid. */
+static void time_grids(int rounds, const Survey *surveys, const File *files) {
+    static double grid[2][4];
+    static Locations square;
+    static Answer out[LOCATIONS];
+    for (int i = 0; i < 2; i++) grid[i][0] = grid[i][1] = grid[i][2] = grid[i][3] = 1e18;
+    grid_locations(&square);
+    for (int r = 0; r < rounds; r++)
+        for (int i = 0; i < 2; i++) {
+            const Survey *s = &surveys[2 + 4 * i];
+            const File *f = &files[2 + 4 * i];
+            double began = now();
+            form(s, f, &square, out);
+            best(&grid[i][0], began);
+            began = now();
+            kept(s, f, &square, out);
+            best(&grid[i][1], began);
+            began = now();
+            proved_grid(f);
+            best(&grid[i][2], began);
+            began = now();
+            proved_text(f);
+            best(&grid[i][3], began);
+        }
     printf("\nms a grid of 64 by 64, 200 points    uniform  diagonal\n");
-    printf("rank-form                           %8.2f  %8.2f\n", grid[0][0] / 1e6, grid[1][0] / 1e6);
+    printf("form                                %8.2f  %8.2f\n", grid[0][0] / 1e6, grid[1][0] / 1e6);
     printf("kept                                %8.2f  %8.2f\n", grid[0][1] / 1e6, grid[1][1] / 1e6);
     printf("proved, as a grid file              %8.2f  %8.2f\n", grid[0][2] / 1e6, grid[1][2] / 1e6);
-    printf("proved / rank-form                  %8.2f  %8.2f\n", grid[0][2] / grid[0][0], grid[1][2] / grid[1][0]);
+    printf("proved / form                       %8.2f  %8.2f\n", grid[0][2] / grid[0][0], grid[1][2] / grid[1][0]);
     printf("proved / kept                       %8.2f  %8.2f\n", grid[0][2] / grid[0][1], grid[1][2] / grid[1][1]);
     printf("proved, as an Esri ASCII grid       %8.2f  %8.2f\n", grid[0][3] / 1e6, grid[1][3] / 1e6);
     printf("Esri ASCII grid / grid file         %8.2f  %8.2f\n", grid[0][3] / grid[0][2], grid[1][3] / grid[1][2]);
+}
+
+/* Many surveys in turn: a processor learns the branches of one. */
+static void time_radii(int rounds) {
+    static Survey surveys[2][RADII];
+    double least[2] = {1e18, 1e18};
+    for (int i = 0; i < 2; i++)
+        for (int j = 0; j < RADII; j++) survey_draw(&surveys[i][j], MAX_POINTS, i == 0 ? UNIFORM : DIAGONAL);
+    for (int r = 0; r < rounds; r++)
+        for (int i = 0; i < 2; i++) {
+            double began = now();
+            for (int j = 0; j < RADII; j++) surveys[i][j].r0 = initial_radius(&surveys[i][j]);
+            best(&least[i], began);
+        }
+    printf("\nns to work out R0, 256 points        uniform  diagonal\n");
+    printf("reference                           %8.0f  %8.0f\n", least[0] / RADII, least[1] / RADII);
+}
+
+static void times(int rounds) {
+    static const int counts[] = {5, 50, 200, 256};
+    static Survey surveys[CASES];
+    static File files[CASES];
+    seed = 3;
+    for (int c = 0; c < CASES; c++) {
+        survey_draw(&surveys[c], counts[c % 4], c < 4 ? UNIFORM : DIAGONAL);
+        file_of(&surveys[c], &files[c]);
+    }
+    time_lookups(rounds, surveys, files);
+    time_grids(rounds, surveys, files);
+    time_radii(rounds);
 }
 
 int main(int argc, char **argv) {

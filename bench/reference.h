@@ -1,10 +1,9 @@
 /* Document 01's lookup in plain C, the measure of speed: two selections of the nearest points over one weighing.
  *
- * "form" has the shape that document 01 asks of the library: the survey by value, R0 at each lookup, the root bit by bit; one pass keeps the
- * nearest eleven in a sorted buffer. "rank-form" is the same shape with the selection that was found fastest: squares to an array,
- * the points within a limit gathered without a branch, each then put where its rank says. "kept" is rank-form with R0 in the survey, worked
- * out once when the survey is made. The other two copy that field with the survey and do not read it; it makes the struct a multiple of 8
- * bytes, so that each of an array is copied from an aligned address, which is faster. Distances and radii are in 256ths of a step. */
+ * Both have the shape that the documents ask of the library: the survey by value, R0 in it, the root bit by bit. "form" makes one pass that
+ * keeps the nearest eleven in a sorted buffer. "kept" has the selection that was found fastest: squares to an array, the points within a limit
+ * gathered without a branch, each then put where its rank says. R0 goes by document 02's polygon, and is worked out once, when the survey is
+ * made. Distances and radii are in 256ths of a step. */
 #ifndef REFERENCE_H
 #define REFERENCE_H
 
@@ -17,7 +16,7 @@
 enum { DOMAIN = 4096, MAX_POINTS = 256, FEW = 4, MOST = 10, HELD = 11, MAX_SIDE = 64 };
 enum { FAR_AWAY = 0x7fffffff };
 
-/* Points by ascending x, then y; R0 of them for lookup_kept, set by whoever makes the survey. */
+/* Points by ascending x, then y; R0 of them, set by whoever makes the survey. */
 typedef struct {
     uint16_t x[MAX_POINTS], y[MAX_POINTS];
     int8_t z[MAX_POINTS];
@@ -43,16 +42,27 @@ INLINE uint32_t root(uint64_t n) {
 
 INLINE uint32_t distance(int32_t squared) { return root((uint64_t)squared << 16); }
 
+/* The cross product of the ways from a to b and from a to c: above 0 where c is left of the way to b. */
+INLINE int cross(const Survey *s, int a, int b, int c) {
+    return (s->x[b] - s->x[a]) * (s->y[c] - s->y[a]) - (s->y[b] - s->y[a]) * (s->x[c] - s->x[a]);
+}
+
+/* Twice the area between the x axis and a chain of the polygon from its first point to its last: the lower for side 1, the upper for side -1. */
+INLINE int twice_area_under(const Survey *s, int side) {
+    int corner[MAX_POINTS], n = 0, twice = 0;
+    for (int i = 0; i < s->count; i++) {
+        while (n > 1 && side * cross(s, corner[n - 2], corner[n - 1], i) <= 0) n--;
+        corner[n++] = i;
+    }
+    for (int i = 1; i < n; i++) twice += (s->x[corner[i]] - s->x[corner[i - 1]]) * (s->y[corner[i]] + s->y[corner[i - 1]]);
+    return twice;
+}
+
 /* R0; a hardware root, which is exact here. */
 INLINE uint32_t initial_radius(const Survey *s) {
     if (s->count == 0) return 0;
-    int low = s->y[0], high = s->y[0];
-    for (int i = 1; i < s->count; i++) {
-        low = s->y[i] < low ? s->y[i] : low;
-        high = s->y[i] > high ? s->y[i] : high;
-    }
-    uint64_t area = (uint64_t)(s->x[s->count - 1] - s->x[0]) * (uint64_t)(high - low);
-    return (uint32_t)(int64_t)sqrt((double)(int64_t)(65536u * 791u * area / (355u * (uint64_t)s->count)));
+    uint64_t twice = (uint64_t)(twice_area_under(s, -1) - twice_area_under(s, 1));
+    return (uint32_t)(int64_t)sqrt((double)(int64_t)(65536u * 791u * twice / (2u * 355u * (uint64_t)s->count)));
 }
 
 /* The greatest squared distance whose distance is at most the radius. */
@@ -87,7 +97,7 @@ INLINE void select_pass(const Survey *s, int px, int py, Nearest *k) {
     }
 }
 
-enum { LANES = 16, CANDIDATES = 16 };
+enum { LANES = 16, GROUPS = 8, CANDIDATES = 16 };
 
 INLINE int count_within(const int32_t *squares, int full, int32_t limit) {
     int n = 0;
@@ -96,7 +106,22 @@ INLINE int count_within(const int32_t *squares, int full, int32_t limit) {
     return n;
 }
 
-/* No branch on a single point: a limit is sought under which 5 to 16 points lie (R0's first; 11 to 16 under a lesser one). */
+/* A limit under which five points or more lie, seldom many more: the fifth of the least squares of eight groups. */
+INLINE int32_t limit_of_five(const int32_t *squares, int full) {
+    int32_t least[GROUPS], limit = 0;
+    for (int i = 0; i < GROUPS; i++) least[i] = squares[i];
+    for (int b = GROUPS; b < full; b += GROUPS)
+        for (int i = 0; i < GROUPS; i++) least[i] = squares[b + i] < least[i] ? squares[b + i] : least[i];
+    for (int i = 0; i < GROUPS; i++) {
+        int rank = 0;
+        for (int j = 0; j < GROUPS; j++) rank += (least[j] < least[i]) | ((least[j] == least[i]) & (j < i));
+        limit = rank == FEW ? least[i] : limit;
+    }
+    return limit;
+}
+
+/* No branch on a single point: a limit is sought under which 5 to 16 points lie (R0's first; a greater one where too few do; 11 to 16 under a
+ * lesser one). */
 INLINE void select_rank(const Survey *s, int px, int py, int32_t reach, Nearest *k) {
     _Alignas(64) int32_t squares[MAX_POINTS];
     int n = s->count, full = (n + LANES - 1) & ~(LANES - 1);
@@ -106,6 +131,11 @@ INLINE void select_rank(const Survey *s, int px, int py, int32_t reach, Nearest 
 
     int32_t low = 0, high = FAR_AWAY - 1, limit = reach;
     int found = count_within(squares, full, limit), tries = 0;
+    if (found <= FEW && found < n) {
+        low = reach;
+        limit = n > CANDIDATES ? limit_of_five(squares, full) : FAR_AWAY - 1;
+        found = count_within(squares, full, limit);
+    }
     while (found > CANDIDATES || (found < (limit < reach ? HELD : FEW + 1) && found < n)) {
         if (++tries > 12) { select_pass(s, px, py, k); return; }
         if (found > CANDIDATES) high = limit; else low = limit;
@@ -181,16 +211,8 @@ INLINE Answer weigh(const Survey *s, int px, int py, uint32_t r0, int32_t reach,
 
 __attribute__((noinline)) static Answer lookup_form(Survey s, int px, int py) {
     Nearest k;
-    uint32_t r0 = initial_radius(&s);
     select_pass(&s, px, py, &k);
-    return weigh(&s, px, py, r0, reach_of(r0), &k);
-}
-
-__attribute__((noinline)) static Answer lookup_rank_form(Survey s, int px, int py) {
-    Nearest k;
-    uint32_t r0 = initial_radius(&s);
-    select_rank(&s, px, py, reach_of(r0), &k);
-    return weigh(&s, px, py, r0, reach_of(r0), &k);
+    return weigh(&s, px, py, s.r0, reach_of(s.r0), &k);
 }
 
 __attribute__((noinline)) static Answer lookup_kept(Survey s, int px, int py) {

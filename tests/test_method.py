@@ -108,8 +108,8 @@ class Small(Figures):
 
     def test_initial_radii(self) -> None:
         rows = [numbers(row[1:]) for row in tables("The initial radius")[0]]
-        for area, count, whole, radius in zip(*rows, strict=True):
-            self.assertEqual(65_536 * 791 * area // (355 * count), whole)
+        for twice, count, whole, radius in zip(*rows, strict=True):
+            self.assertEqual(65_536 * 791 * twice // (355 * count * 2), whole)
             self.assertEqual(isqrt(int(whole)), radius)
 
 
@@ -117,7 +117,7 @@ class Worked(Figures):
     """The tables of the worked lookup, against fractions worked out here from exact.py's lookup."""
 
     def setUp(self) -> None:
-        self.ordered, self.factors, self.pairs, self.weighed, figures = tables(TITLE)
+        self.ordered, self.edges, self.factors, self.pairs, self.weighed, figures = tables(TITLE)
         self.figures = dict(figures[1:])
         self.points = [exact.Point(*map(int, row[1:4])) for row in self.ordered[1:]]
         self.initial, self.lookup = looked_up(sorted(self.points))
@@ -160,44 +160,56 @@ class Worked(Figures):
             told = [i + 1, *self.points[i], *self.offset(i), squared, isqrt(65_536 * squared)]
             self.assertEqual(numbers(row), told)
 
+    def without(self, x: int, y: int) -> list[exact.Point]:
+        return [point for point in self.points if point[:2] != (x, y)]
+
     def test_kept(self) -> None:
         title = "What is kept with the points"
         _, least, greatest = tables(title)[0]
         ends = exact.ends(self.points)
         self.assertEqual(numbers(least[1:]), list(ends[0:6:2]))
         self.assertEqual(numbers(greatest[1:]), list(ends[1:6:2]))
-        without = re.findall(r"[Ww]ithout (?:the point )?\((\d+), (\d+)\)", prose(title))
-        right, left = (
-            exact.ends([point for point in self.points if point[:2] != (int(x), int(y))])
-            for x, y in without
-        )
-        told = f"the greatest x is {right.greatest_x}, A is 306 and R0 is {right.initial_radius:,}"
+        found = re.findall(r"[Ww]ithout (?:the point )?\((\d+), (\d+)\)", prose(title))
+        kept = [self.without(int(x), int(y)) for x, y in found]
+        right, left, inside = (exact.ends(points) for points in kept)
+        twice = [exact.twice_area(points) for points in (self.points, *kept)]
         for sentence in (
             f"and R0 is {ends.initial_radius:,}.",
-            told,
+            f"the greatest x is {right.greatest_x}, 2A is {twice[1]} and R0 is {right.initial_radius:,};",
             f"the least x is {left.least_x}, while the greatest y stays {left.greatest_y},",
+            f"2A stays {twice[3]}, and R0 is {inside.initial_radius:,}, since N is {len(kept[2])}.",
         ):
             self.assertIn(sentence, prose(title))
-        self.assertEqual((right.greatest_x - right.least_x) * (right.greatest_y - right.least_y), 306)
         self.assertEqual(left.greatest_y, ends.greatest_y)
+        self.assertEqual(twice[3], twice[0])
 
     def test_choice(self) -> None:
         self.assertEqual([each[:3] for each in self.chosen], self.points[: len(self.chosen)])
         self.assertEqual(self.lookup.radius, self.initial)
         self.assertEqual({each.kind for each in self.chosen}, {1, 2, 3})
 
+    def test_polygon(self) -> None:
+        """The edges go round the points, each to where the next begins, with every point left of each."""
+        ways = [[tuple(map(int, NUMBER.findall(cell))) for cell in row[:2]] for row in self.edges[1:]]
+        self.assertEqual([to for _, to in ways], [start for start, _ in ways[1:] + ways[:1]])
+        for (start, to), row in zip(ways, self.edges[1:]):
+            self.assertLess({start, to}, {point[:2] for point in self.points})
+            one, other = start[0] * to[1], start[1] * to[0]
+            self.assertEqual(numbers(row[2:]), [one, other, one - other])
+            for x, y, _ in self.points:
+                across = (to[0] - start[0]) * (y - start[1]) - (to[1] - start[1]) * (x - start[0])
+                self.assertGreaterEqual(across, 0)
+
     def radius_figures(self) -> dict[str, int]:
         """The figures that stand in the text, and how they are found there."""
-        sides = [max(each) - min(each) for each in (self.column("x"), self.column("y"))]
-        area, count = sides[0] * sides[1], len(self.points)
+        twice, count = int(sum(number(row[4]) for row in self.edges[1:])), len(self.points)
+        self.assertEqual(exact.twice_area(self.points), twice)
         return {
-            r"= ([\d,]+) and": sides[0],
-            r"= ([\d,]+), so A": sides[1],
-            r"A is ([\d,]+);": area,
+            r"2A = ([\d,]+);": twice,
             r"N is ([\d,]+)\.": count,
-            r"791 × 323 is ([\d,]+), and": 65_536 * 791 * area,
-            r"355 × 8 is ([\d,]+);": 355 * count,
-            r"quotient is ([\d,]+)\.": 65_536 * 791 * area // (355 * count),
+            r"791 × 646 is ([\d,]+), and": 65_536 * 791 * twice,
+            r"355 × 8 × 2 is ([\d,]+);": 355 * count * 2,
+            r"quotient is ([\d,]+)\.": 65_536 * 791 * twice // (355 * count * 2),
             r"2,428² is ([\d,]+), and": self.initial**2,
             r", and ([\d,]+)² is": self.initial + 1,
             r"2,429² is ([\d,]+), so": (self.initial + 1) ** 2,

@@ -1,9 +1,11 @@
 //! The library held to an implementation of documents 01 and 02 that was written apart, on random and damaged input.
-//! The tests of the Esri ASCII grid are in `esri`, those of grid files that are read in `grid_file`, and those of the refusals' names in `refusals`.
+//! The tests of the Esri ASCII grid are in `esri`, those of grid files that are read in `grid_file`, those of the polygon in `polygon`, and those of the
+//! refusals' names in `refusals`.
 mod esri;
 mod grid_file;
 mod input;
 mod paper;
+mod polygon;
 mod refusals;
 
 use input::{damaged, mend_sum, Random};

@@ -1,7 +1,9 @@
-//! Random points, numbers in and out of range, and damaged files; `grid_file` has those of grids.
+//! Random points, numbers in and out of range, and damaged files; `shape` has how the points lie, `grid_file` grids and their files.
 pub mod grid_file;
+mod shape;
 
 use crate::paper::{self, Point};
+use shape::Shape;
 
 /// splitmix64
 pub struct Random(pub u64);
@@ -34,14 +36,17 @@ impl Random {
         }
     }
 
-    /// Points over the domain, along its diagonal, or close together.
+    /// Two numbers, each below the same one.
+    fn within(&mut self, side: u32) -> (u32, u32) {
+        (self.below(side), self.below(side))
+    }
+
+    /// Points over the domain, along its diagonal, close together, on a line or nearly, in clusters, or on a lattice.
     pub fn points(&mut self, most: u32) -> Vec<Point> {
-        let (shape, n) = (self.below(3), self.below(most + 1));
+        let (shape, n) = (Shape::any(self), self.below(most + 1));
         let mut points: Vec<Point> = Vec::new();
         for _ in 0..n {
-            let side = if shape == 2 { 32 } else { 4096 };
-            let x = self.below(side);
-            let y = if shape == 1 { (x + self.below(256)) % 4096 } else { self.below(side) };
+            let (x, y) = shape.location(self);
             if let Ok(more) = paper::add(&points, x, y, self.below(256) as i32 - 128) {
                 points = more;
             }

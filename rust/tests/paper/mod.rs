@@ -1,7 +1,8 @@
 //! Document 01 in Rust, written from the paper alone, to hold the library to: points in a vector, the mean in f64.
-//! `esri` has document 02's text of a grid, `grid_file` how a grid file is read.
+//! The area that R0 goes by is document 02's, in `polygon`; `esri` has document 02's text of a grid, `grid_file` how a grid file is read.
 pub mod esri;
 pub mod grid_file;
+pub mod polygon;
 
 use shepard::{Grid, Kind, Neighbour};
 
@@ -25,10 +26,9 @@ fn squared(p: (u32, u32), a: &Point) -> u64 {
     (dx * dx + dy * dy) as u64
 }
 
-fn initial_radius(points: &[Point]) -> u64 {
-    let side = |values: Vec<u64>| values.iter().max().unwrap() - values.iter().min().unwrap();
-    let area = side(points.iter().map(|a| u64::from(a.0)).collect()) * side(points.iter().map(|a| u64::from(a.1)).collect());
-    root(65536 * 7 * 113 * area / (355 * points.len() as u64))
+/// R0 of one point or more.
+pub fn initial_radius(points: &[Point]) -> u64 {
+    root(65536 * 7 * 113 * polygon::twice_area(points) / (355 * points.len() as u64 * 2))
 }
 
 /// What a lookup among one point or more chooses: the points in order of choice, and R.
