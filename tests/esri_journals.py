@@ -62,7 +62,7 @@ def widest_esri_journal(rng: Random, index: int) -> list[Call]:
 
 def free_journal(rng: Random, index: int) -> list[Call]:
     """Texts whose length hangs on the rounding, lent about the least and the greatest of them."""
-    points, numbers = free_rounding.make(rng)
+    points, numbers = free_rounding.make(rng, index)
     outcome = survey_of(points).esri_text(Grid(*numbers), BYTES.most)
     lengths = outcomes.filled_units(outcome)
     least, greatest = lengths[0], lengths[-1]

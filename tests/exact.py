@@ -7,6 +7,7 @@ from fractions import Fraction
 from math import isqrt, lcm
 from typing import NamedTuple
 
+import exact_polygon
 from metric import Location, Metric, Offset
 
 GREATEST_COORDINATE = 4095
@@ -80,15 +81,19 @@ def extent(points: Sequence[Point]) -> list[int]:
     return [end(axis) for axis in zip(*points) for end in (min, max)]
 
 
-def area(points: Sequence[Point]) -> int:
-    """The area of the smallest upright rectangle around the points."""
-    left, right, low, high, *_ = extent(points)
-    return (right - left) * (high - low)
+def twice_area(points: Iterable[Point]) -> int:
+    """2A, a whole number; A is the area of the convex polygon around the points."""
+    return exact_polygon.twice_area(point[:2] for point in points)
+
+
+def radius_of_area(twice: int, count: int) -> int:
+    """R0, from 2A and N. The root of the whole quotient is that of the quotient, rounded down."""
+    return isqrt(65_536 * 7 * 113 * twice // (2 * 355 * count))
 
 
 def initial_radius(points: Sequence[Point]) -> int:
-    """R0. The root of the whole quotient is the root of the quotient, rounded down."""
-    return isqrt(65_536 * 7 * 113 * area(points) // (355 * len(points)))
+    """R0."""
+    return radius_of_area(twice_area(points), len(points))
 
 
 def ends(points: Sequence[Point]) -> Ends:

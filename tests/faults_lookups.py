@@ -91,7 +91,7 @@ def greater_square() -> None:
 
 @fault("radius by pi", "lookups")
 def radius_by_pi() -> None:
-    exact.initial_radius = lambda points: surveys.radius_by_pi(exact.area(points), len(points))
+    exact.radius_of_area = surveys.radius_by_pi
 
 
 @fault("within strictly", "lookups")

@@ -18,12 +18,12 @@ ASIDE = 2
 VALUES = ((0, -1), (10, 9), (100, 99), (-10, -9), (-100, -99), (0, -1), (0, 1), (-1, 0))
 
 
-def make(rng: Random) -> tuple[list[Point], Numbers]:
-    """Two points, and a grid of which one row or one column is free to be rounded."""
+def make(rng: Random, index: int) -> tuple[list[Point], Numbers]:
+    """Two points, their values in turn, and a grid with one row or column free to be rounded."""
     scale, sign = rng.randint(LEAST_SCALE, GREATEST_SCALE), rng.choice((-1, 1))
     start, centre = rng.randint(0, 4095 - FAR * scale), rng.randint(ASIDE, 4095 - ASIDE)
     first = start if sign > 0 else 4095 - start
-    values = zip((NEAR, FAR), rng.choice(VALUES))
+    values = zip((NEAR, FAR), VALUES[index % len(VALUES)])
     points = [(first + sign * away * scale, centre, z) for away, z in values]
     along = first, 1, rng.randint(1, min(3, 4096 - first))
     across = centre - ASIDE, 1, rng.randint(1, 2 * ASIDE + 1)

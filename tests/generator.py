@@ -12,6 +12,7 @@ import esri_journals
 import grid_inputs
 import journals
 import mixed_calls
+import polygon_journals
 from grid_inputs import GridInput
 from journals import Journal
 from protocol import Call
@@ -25,6 +26,7 @@ JOURNALS = (
     ("lookups", journals.lookup_journal, 400),
     ("mixed calls", mixed_calls.mixed_journal, 128),
     ("ends", ends_journals.ends_journal, 72),
+    ("polygon", polygon_journals.polygon_journal, 60),
     ("full survey", journals.full_journal, 10),
     ("damaged files", journals.damaged_journal, 105),
     ("grids", journals.grid_journal, 70),

@@ -62,7 +62,7 @@ def like_input(rng: Random, index: int) -> bytes:
     if index % 3:
         points = surveys.with_narrow_values(rng, points)
     if index % 8 == 4:
-        points, numbers = free_rounding.make(rng)
+        points, numbers = free_rounding.make(rng, index // 8)
     if index == 0:
         points, numbers = [exact.Point(4095, 4095, -128)], widest_grid(rng)
     preamble = pack(">6H", *numbers) + damage.random_preamble(rng)

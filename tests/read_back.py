@@ -53,11 +53,11 @@ def checkered(values: tuple[int, int]) -> Points:
 
 
 def inputs() -> dict[str, bytes]:
-    free_points, free_numbers = free_rounding.make(Random(1))
+    free_points, free_numbers = free_rounding.make(Random(1), 7)
     return {
         "the sample survey": SAMPLE.read_bytes(),
         "the whole case": made((0, 0, 1, 1, 2, 1), [(3, 0, -7)]),
-        "cells from -1 to 0": made((0, 0, 200, 200, 20, 20), checkered((-1, 0))),
+        "cells from -1 to 0": made((0, 0, 125, 125, 20, 20), checkered((-1, 0))),
         "cells from -128 to 127": made((0, 0, 65, 65, 64, 64), checkered((-128, 127))),
         "one row": made((31, 1999, 64, 64, 64, 1), checkered((-9, 10))),
         "one column": made((1999, 4095 - 63 * 60, 60, 60, 1, 64), checkered((99, -100))),

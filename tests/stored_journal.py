@@ -18,8 +18,12 @@ from random_calls import with_ends
 
 GRID = (0, 0, 1, 1, 2, 1)
 PAIR = damage.records_of([(3, 0, 0), (6, 0, 90)])
-FULL = damage.records_of([(16 * i, 15 * i, i - 128) for i in range(256)])
+# A curve: many of the points are corners of the polygon.
+FULL = [(16 * i, i * i // 16, i - 128) for i in range(256)]
 FIVE = ((95, 100, 0), (100, 95, 0), (100, 105, 0), (103, 104, 98), (105, 100, 0))
+SQUARE = ((0, 0, 0), (0, 40, 0), (40, 0, 0), (40, 40, 0))
+# At the same distance from the square's centre.
+IN_SQUARE = ((10, 20, 1), (20, 10, 2), (20, 30, 3), (28, 26, 50), (30, 20, 4))
 # The last add lacks a byte.
 BAD_END = protocol.encode(Call("a", (1, 1, 1)))[:-1]
 
@@ -30,6 +34,10 @@ def calls_of(letter: str, *arguments: tuple[int, ...]) -> list[Call]:
 
 def loads(*files: bytes) -> list[Call]:
     return [protocol.load(file) for file in files]
+
+
+def full_file() -> bytes:
+    return damage.assemble(b"", damage.records_of(FULL))
 
 
 def on_none() -> list[Call]:
@@ -72,17 +80,24 @@ def files() -> list[Call]:
 
 def on_full() -> list[Call]:
     """256 points: 5, and room again after a drop."""
-    calls = loads(damage.assemble(b"", FULL)) + [Call("a", (1, 1, 1)), Call("d", (16, 15))]
+    calls = loads(full_file()) + [Call("a", (1, 1, 1)), Call("d", FULL[1][:2])]
     calls += calls_of("a", (1, 1, 1), (2, 1, 1)) + calls_of("q", (1, 1), (2000, 2000))
-    calls += calls_of("n", (2000, 2000, 10), (4095, 0, 32))
+    calls += calls_of("n", (2000, 2000, 10), (2000, 1000, 10), (4095, 0, 32))
     return calls + [Call("k"), Call("q", (1, 1))]
 
 
 def rows() -> list[Call]:
-    """Document 01's rows with all points tapered, and with all at the edge."""
+    """The rows of five and of twelve points, all neighbours at the edge."""
     twelve = journals.EXAMPLES[-1][0]
     calls = calls_of("a", *FIVE) + [Call("n", (100, 100, 11)), Call("k")]
     return calls + calls_of("a", *twelve) + [Call("n", (100, 100, 10)), Call("q", (0, 0))]
+
+
+def within_radius() -> list[Call]:
+    """Five points within R0, all tapered; then ten, and eleven."""
+    calls = [Call("k"), *calls_of("a", *SQUARE, *IN_SQUARE), Call("n", (20, 20, 10)), Call("k")]
+    calls += calls_of("a", (1000, 1000, 100), *((x, 0, x) for x in range(1, 11)))
+    return calls + [Call("n", (0, 0, 10)), Call("a", (11, 0, 11)), Call("n", (0, 0, 10))]
 
 
 def grids() -> list[Call]:
@@ -115,15 +130,25 @@ def ends() -> list[Call]:
     calls += [Call("a", (4096, 0, 0)), Call("a", (5, 5, 128)), Call("a", (0, 0, -9))]
     calls += calls_of("c", (4095, 4095, 6), (0, 4095, 2), (0, 4096, 0), (0, 0, -129), (9, 9, -9))
     calls += calls_of("d", (4096, 0), (0, 4095), (0, 4095), (4095, 4095), (4095, 0), (0, 0))
-    calls += loads(damage.assemble(b"", FULL), bytes(12), b"")
-    calls += calls_of("a", (1, 1, 1), (16, 15, 1)) + calls_of("d", (4080, 3825), (0, 0))
+    calls += loads(full_file(), bytes(12), b"")
+    calls += calls_of("a", (1, 1, 1), FULL[1]) + calls_of("d", FULL[-1][:2], FULL[0][:2])
     calls += loads(damage.assemble(b"", PAIR), damage.assemble(b"", [], count=257))
     return with_ends(calls + [Call("q", (6, 0)), Call("k"), *loads(damage.assemble(b"", []))])
 
 
+def polygon() -> list[Call]:
+    """The ends of one line, of an odd area, and while corners come and go."""
+    calls = [Call("k"), *calls_of("a", (10, 10, 1), (13, 12, 2), (19, 16, 3), (17, 15, 4))]
+    calls += [Call("k"), *calls_of("a", (3, 0, 9), (3, 1, 7), (4, 0, 8)), Call("k")]
+    calls += calls_of("a", (0, 0, 1), (12, 0, 2), (0, 12, 3), (3, 3, 4), (6, 6, 5), (0, 13, 6))
+    calls += [Call("a", (4095, 4095, 7)), Call("c", (3, 3, -9))]
+    calls += calls_of("d", (4095, 4095), (0, 12), (0, 0), (12, 0))
+    return with_ends(calls)
+
+
 def make() -> journals.Journal:
-    calls = [Call("e")] + on_none() + on_two() + files() + on_full() + rows() + grids()
-    return journals.Journal("stored", calls + esri_texts() + ends(), BAD_END)
+    calls = [Call("e")] + on_none() + on_two() + files() + on_full() + rows() + within_radius()
+    return journals.Journal("stored", calls + grids() + esri_texts() + ends() + polygon(), BAD_END)
 
 
 if __name__ == "__main__":

@@ -16,6 +16,7 @@ from unittest import mock
 import checks
 import compare
 import exact
+import exact_polygon
 import exact_survey
 import generator
 import grid_inputs
@@ -29,6 +30,7 @@ from fakes import FAULTS
 from generator import Test
 from grid_inputs import GridInput
 from journals import Journal
+from metric import Location
 from operations import BYTES
 from permitted import Expected
 from programs import Run
@@ -39,8 +41,9 @@ FAKES = str(pathlib.Path(__file__).with_name("fakes.py"))
 SOUND_PART, FAULTY_PART = 16, 4
 SECONDS = 20
 SHORT_SECONDS = 2
-FEWEST_FAULTS = 115
+FEWEST_FAULTS = 136
 ESRI_KINDS = ("esri texts", "widest esri texts", "free lengths")
+ENDS_KINDS = ("ends", "polygon")
 # What each call can be refused with.
 REFUSALS = {
     "add": (1, 2, 3, 5),
@@ -66,6 +69,29 @@ def programs(fault: str | None = None) -> compare.Programs:
 
 def part_of_run(divisor: int) -> list[Test]:
     return generator.make(Random(compare.SEED), divisor)
+
+
+def moves_of(before: tuple[Location, ...], after: tuple[Location, ...]) -> Iterator[str]:
+    """What a call does to the polygon around the locations."""
+    old, new = (set(exact_polygon.corners(each)) for each in (before, after))
+    area, renewed = exact_polygon.twice_area(before), exact_polygon.twice_area(after)
+    if renewed % 2:
+        yield "with an odd area"
+    if renewed == 1:
+        yield "with the least area"
+    if renewed == 0:
+        yield "to no area" if area else "on one line"
+    for at in set(after) - set(before) if area else ():
+        in_line = any(exact_polygon.turn(*edge, at) == 0 for edge in exact_polygon.edges(before))
+        if renewed == area:
+            yield "on an edge" if in_line else "inside"
+        else:
+            yield "on a prolonged edge" if in_line else "outside"
+    for at in set(before) - set(after):
+        yield "of a corner" if at in old else "of another"
+    for word, corners in (("lost", old - new), ("gained", new - old)):
+        if corners:
+            yield f"with {'one corner' if len(corners) == 1 else 'more corners'} {word}"
 
 
 class SoundPrograms(unittest.TestCase):
@@ -377,7 +403,7 @@ class Generator(unittest.TestCase):
         """What they catch is in the ends: no other call that only asks is accepted."""
         for journal in self.journals:
             survey = exact_survey.Survey()
-            for call in journal.calls if journal.kind == "ends" else []:
+            for call in journal.calls if journal.kind in ENDS_KINDS else []:
                 accepted = permitted.expected(survey, call)[0].outcome is not None
                 asks = call.letter != "e" and not call.operation.alters
                 self.assertFalse(accepted and asks, protocol.describe(call))
@@ -401,9 +427,43 @@ class Generator(unittest.TestCase):
                 if call.letter == "e":
                     met[present, after.initial_radius > 0] += 1
         moved = ("held", "given up", "least up", "greatest down")
-        few = ((0, False), (1, False), (2, True), (3, True), (4, True), (5, True))
+        few = ((0, False), (1, False), (2, False), (3, True), (4, True), (5, True))
         for what in moved + few:
             self.assertGreater(met[what], 5, what)
+
+    def test_corners_come_and_go(self) -> None:
+        """Adds outside, inside, on an edge and on a prolonged one; drops; odd areas."""
+        met = Counter()
+        for journal in self.journals:
+            survey = exact_survey.Survey()
+            for call in journal.calls if journal.kind == "polygon" else []:
+                before = tuple(sorted(survey.values))
+                accepted = permitted.expected(survey, call)[0].outcome is not None
+                after = tuple(sorted(survey.values))
+                name = call.operation.name if accepted else "refused"
+                met.update(f"{name} {how}" for how in moves_of(before, after))
+                met[f"{name} with R0"] += exact_polygon.twice_area(after) > 0
+        for what in (
+            "add outside",
+            "add inside",
+            "add on an edge",
+            "add on a prolonged edge",
+            "add with one corner lost",
+            "add with more corners lost",
+            "drop of a corner",
+            "drop of another",
+            "drop with one corner gained",
+            "drop with more corners gained",
+            "add with an odd area",
+            "drop with an odd area",
+            "read ends with the least area",
+            "add on one line",
+            "drop to no area",
+            "change with R0",
+            "load with R0",
+            "refused with R0",
+        ):
+            self.assertGreater(met[what], 3, what)
 
 
 if __name__ == "__main__":

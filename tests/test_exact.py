@@ -1,4 +1,4 @@
-"""Holds the exact-fraction program to the documents' own numbers and a second, slower mean."""
+"""Holds the exact-fraction program to the documents' numbers, a slower mean and a slower area."""
 
 from __future__ import annotations
 
@@ -6,6 +6,7 @@ import contextlib
 import unittest
 from collections.abc import Callable, Iterable, Sequence
 from fractions import Fraction
+from itertools import combinations
 from random import Random
 from struct import pack
 from unittest import mock
@@ -14,7 +15,9 @@ import damage
 import exact
 import exact_esri
 import exact_files
+import exact_polygon
 import exact_survey
+import faults_polygon
 import free_rounding
 import grid_inputs
 import grids
@@ -110,14 +113,14 @@ class Examples(RefusalCase):
 
     def test_five_points(self) -> None:
         lookup = example(4)
-        self.assertEqual((len(lookup.neighbours), lookup.radius), (5, 1708))
-        self.assertEqual(kinds(lookup), {exact.TAPERED})
-        self.assertEqual(answers(lookup), [4608])
+        self.assertEqual((len(lookup.neighbours), lookup.radius), (4, 1280))
+        self.assertEqual(kinds(lookup), {exact.EDGE})
+        self.assertEqual(answers(lookup), [6272])
 
     def test_twelve_points(self) -> None:
         points, _ = journals.EXAMPLES[5]
         self.assertEqual(len(points), 12)
-        self.assertEqual(exact.initial_radius(survey_of(points).points()), 1103)
+        self.assertEqual(exact.initial_radius(survey_of(points).points()), 948)
         lookup = example(5)
         self.assertEqual((len(lookup.neighbours), lookup.radius), (4, 1280))
         self.assertEqual(kinds(lookup), {exact.EDGE})
@@ -185,22 +188,145 @@ class Mean(unittest.TestCase):
             self.assertEqual(answers(lookup), allowed)
 
 
+def by_slices(locations: Sequence[Location]) -> Fraction:
+    """Twice the area, slice by slice between neighbouring x, by the heights of all lines there."""
+
+    def height(at: int) -> Fraction:
+        ys = [Fraction(y) for x, y in locations if x == at]
+        for (x0, y0), (x1, y1) in combinations(sorted(locations), 2):
+            if x0 < at < x1:
+                ys.append(y0 + Fraction((y1 - y0) * (at - x0), x1 - x0))
+        return max(ys) - min(ys)
+
+    xs = sorted({x for x, _ in locations})
+    return sum(
+        ((right - left) * (height(left) + height(right)) for left, right in zip(xs, xs[1:])),
+        Fraction(0),
+    )
+
+
+class Polygon(unittest.TestCase):
+    """Document 02's §4: the convex polygon around the points."""
+
+    FIVE, TWELVE = ([point[:2] for point in journals.EXAMPLES[each][0]] for each in (4, 5))
+
+    def assert_polygon(
+        self, locations: Sequence[Location], twice: int, corners: Iterable[Location]
+    ) -> None:
+        """In any order of the locations."""
+        for each in (locations, locations[::-1], sorted(locations)):
+            self.assertEqual(exact_polygon.twice_area(each), twice)
+            self.assertEqual(sorted(exact_polygon.corners(each)), sorted(corners))
+
+    def test_none_one_and_two(self) -> None:
+        self.assert_polygon([], 0, [])
+        self.assert_polygon([(5, 7)], 0, [(5, 7)])
+        self.assert_polygon([(0, 0), (4095, 4095)], 0, [(0, 0), (4095, 4095)])
+
+    def test_one_line(self) -> None:
+        for right, up in ((1, 0), (0, 1), (1, 1), (3, 2), (2, 3), (1, -1), (5, -2)):
+            line = [(600 + right * each, 600 + up * each) for each in (0, 7, 1, 200, 30, 2)]
+            self.assert_polygon(line, 0, [line[0], line[3]])
+            self.assertEqual(exact.initial_radius(surveys.points_at(line)), 0)
+
+    def test_beside_a_line(self) -> None:
+        """One point beside many of one line."""
+        line = [(3 * each, 2 * each) for each in range(100)]
+        self.assert_polygon([*line, (1, 1)], 99, [line[0], line[-1], (1, 1)])
+        self.assert_polygon([*line, (2, 1)], 99, [line[0], line[-1], (2, 1)])
+
+    def test_points_on_edges(self) -> None:
+        corners = [(0, 0), (6, 0), (0, 6)]
+        self.assert_polygon([*corners, (2, 0), (5, 0), (0, 3), (3, 3), (4, 2), (1, 1)], 36, corners)
+
+    def test_prolonged_edge(self) -> None:
+        """With a location on its line, an edge ends there."""
+        self.assert_polygon([(0, 0), (6, 0), (0, 6), (8, 0)], 48, [(0, 0), (8, 0), (0, 6)])
+        self.assert_polygon([(0, 0), (6, 0), (0, 6), (-2, 8)], 48, [(0, 0), (6, 0), (-2, 8)])
+
+    def test_full_squares(self) -> None:
+        """Upright, and slanted by (2, 1), whose square has an area of 5 a node."""
+        upright = [(x, y) for x in range(16) for y in range(16)]
+        self.assert_polygon(upright, 450, [(0, 0), (15, 0), (0, 15), (15, 15)])
+        slanted = [(2 * i - j, i + 2 * j) for i in range(16) for j in range(16)]
+        self.assert_polygon(slanted, 5 * 450, [(0, 0), (30, 15), (-15, 30), (15, 45)])
+
+    def test_odd(self) -> None:
+        """The least polygon, and one of which R0 would differ without the half."""
+        self.assert_polygon([(3, 1), (4, 0), (3, 0)], 1, [(3, 1), (4, 0), (3, 0)])
+        self.assertEqual(exact.radius_of_area(1, 3), 156)
+        self.assert_polygon([(0, 0), (5, 0), (0, 3)], 15, [(0, 0), (5, 0), (0, 3)])
+        self.assertEqual((exact.radius_of_area(15, 3), exact.radius_of_area(14, 3)), (604, 583))
+
+    def test_slivers(self) -> None:
+        """Along a diagonal, and along an edge of the domain."""
+        for three, twice in (
+            ([(0, 0), (4095, 4094), (4094, 4093)], 1),
+            ([(0, 0), (4095, 1), (2047, 1)], 2048),
+        ):
+            self.assert_polygon(three, twice, three)
+
+    def test_whole_domain(self) -> None:
+        around = [(x, y) for x in (0, 4095) for y in (0, 4095)]
+        self.assert_polygon([*around, (1, 1), (4094, 2), (0, 2048)], 2 * 4095**2, around)
+        self.assertEqual(exact.initial_radius(surveys.points_at(around)), 782_416)
+        self.assert_polygon(around[:3], 4095**2, around[:3])
+        self.assertEqual(exact.initial_radius(surveys.points_at(around[:3])), 638_840)
+
+    def test_five_and_twelve_points(self) -> None:
+        self.assert_polygon(self.FIVE, 110, self.FIVE)
+        self.assertEqual(exact.initial_radius(surveys.points_at(self.FIVE)), 1267)
+        self.assert_polygon(self.TWELVE, 148, self.TWELVE)
+        self.assertEqual(exact.initial_radius(surveys.points_at(self.TWELVE)), 948)
+
+    def test_equal_locations(self) -> None:
+        self.assert_polygon([(0, 0), (6, 0), (6, 0), (0, 6), (0, 0)], 36, [(0, 0), (6, 0), (0, 6)])
+
+    def test_encloses_all(self) -> None:
+        """Corners are points of the survey, each of two edges, and none lies right of an edge."""
+        rng = Random(29)
+        for kind in surveys.KINDS:
+            locations = sorted(point[:2] for point in surveys.make(rng, kind)[0])
+            edges = exact_polygon.edges(tuple(locations))
+            starts, ends = ([edge[each] for edge in edges] for each in (0, 1))
+            self.assertEqual(sorted(starts), sorted(ends))
+            self.assertEqual(len(set(starts)), len(edges))
+            self.assertLessEqual(set(starts), set(locations))
+            for edge in edges:
+                self.assertGreaterEqual(min(exact_polygon.turn(*edge, at) for at in locations), 0)
+
+    def test_against_slices(self) -> None:
+        rng = Random(31)
+        for _ in range(300):
+            wide, high = rng.randint(1, 9), rng.randint(1, 9)
+            draw = lambda: (rng.randrange(wide), rng.randrange(high))
+            locations = surveys.gather(rng.randint(1, 9), draw)
+            self.assertEqual(exact_polygon.twice_area(locations), by_slices(locations))
+
+    def test_against_sides(self) -> None:
+        """The faults of a side are in what is planted: without one the area is the same."""
+        rng = Random(37)
+        by_sides = faults_polygon.by_sides(faults_polygon.cut_all)
+        for _ in range(4):
+            for kind in surveys.KINDS:
+                locations = sorted(point[:2] for point in surveys.make(rng, kind)[0])
+                self.assertEqual(exact_polygon.twice_area(locations), by_sides(locations))
+
+
 class InitialRadius(unittest.TestCase):
     def test_is_the_greatest(self) -> None:
-        """By document 01's inequality, of one point to 256 and of all four corners."""
+        """By the inequality with both sides taken twice, of one point to 256."""
         rng = Random(17)
         made = [surveys.make(rng, kind)[0] for kind in surveys.KINDS]
-        corners = [exact.Point(x, y, 0) for x in (0, 4095) for y in (0, 4095)]
-        for points in [*made, corners, corners[:1], corners[:2], corners[:3], corners[::3]]:
-            wide = max(point.x for point in points) - min(point.x for point in points)
-            high = max(point.y for point in points) - min(point.y for point in points)
-            radius, most = exact.initial_radius(points), 65_536 * 7 * 113 * wide * high
-            self.assertLessEqual(radius**2 * 355 * len(points), most)
-            self.assertGreater((radius + 1) ** 2 * 355 * len(points), most)
+        around = [exact.Point(x, y, 0) for x in (0, 4095) for y in (0, 4095)]
+        for points in [*made, around, around[:1], around[:2], around[:3], around[::3]]:
+            radius, most = exact.initial_radius(points), 65_536 * 7 * 113 * exact.twice_area(points)
+            self.assertLessEqual(radius**2 * 355 * len(points) * 2, most)
+            self.assertGreater((radius + 1) ** 2 * 355 * len(points) * 2, most)
 
 
 class Ends(RefusalCase):
-    """Document 02's §1: the rectangle, the least and greatest value, and R0."""
+    """Document 02's §1: the rectangle, the least and greatest value, and R0, which is §4's."""
 
     def assert_ends(self, survey: Survey, *expected: int) -> None:
         self.assertEqual(survey.read_ends().numbers, expected)
@@ -230,14 +356,15 @@ class Ends(RefusalCase):
         self.assert_zeros(survey_of([(0, 0, 0)]))
 
     def test_two_to_four_points(self) -> None:
-        """The roots of a half, a third and a quarter of 65,536 × 791 × 4,095² / 355."""
+        """The roots of 65,536 × 791 × 4,095² / 355 by six and by four, that is by 2N and by N."""
         survey = survey_of([(0, 0, -128), (4095, 4095, 127)])
-        self.assert_ends(survey, 0, 4095, 0, 4095, -128, 127, 1_106_503)
+        self.assert_ends(survey, 0, 4095, 0, 4095, -128, 127, 0)
         survey.add(0, 4095, 1)
-        self.assert_ends(survey, 0, 4095, 0, 4095, -128, 127, 903_456)
+        self.assert_ends(survey, 0, 4095, 0, 4095, -128, 127, 638_840)
         survey.add(4095, 0, 2)
         self.assert_ends(survey, 0, 4095, 0, 4095, -128, 127, 782_416)
-        self.assert_ends(survey_of([(3, 1, 7), (4, 0, 8)]), 3, 4, 0, 1, 7, 8, 270)
+        self.assert_ends(survey_of([(3, 1, 7), (4, 0, 8)]), 3, 4, 0, 1, 7, 8, 0)
+        self.assert_ends(survey_of([(3, 1, 7), (4, 0, 8), (3, 0, 9)]), 3, 4, 0, 1, 7, 9, 156)
 
     def test_points_on_a_line(self) -> None:
         for points, _ in journals.EXAMPLES[1:4]:
@@ -246,31 +373,46 @@ class Ends(RefusalCase):
 
     def test_five_and_twelve_points(self) -> None:
         five, twelve = journals.EXAMPLES[4][0], journals.EXAMPLES[5][0]
-        self.assert_ends(survey_of(five), 95, 105, 95, 105, 0, 98, 1708)
-        self.assert_ends(survey_of(twelve), 95, 105, 95, 105, 1, 12, 1103)
+        self.assert_ends(survey_of(five), 95, 105, 95, 105, 0, 98, 1267)
+        self.assert_ends(survey_of(twelve), 95, 105, 95, 105, 1, 12, 948)
 
     def test_drop_of_a_corner(self) -> None:
-        """Where another point holds the edge it stays, and R0 is of one point fewer."""
+        """The rectangle's edge stays where another point holds it, while the polygon shrinks."""
         survey = survey_of([(0, 0, 1), (10, 0, 2), (0, 10, 3), (10, 10, 4), (5, 20, 5)])
-        self.assert_ends(survey, 0, 10, 0, 20, 1, 5, 2416)
+        self.assert_ends(survey, 0, 10, 0, 20, 1, 5, 2093)
         survey.drop(0, 0)
-        self.assert_ends(survey, 0, 10, 0, 20, 2, 5, 2702)
+        self.assert_ends(survey, 0, 10, 0, 20, 2, 5, 1910)
         survey.drop(5, 20)
-        self.assert_ends(survey, 0, 10, 0, 10, 2, 4, 2206)
+        self.assert_ends(survey, 0, 10, 0, 10, 2, 4, 1560)
         survey.drop(10, 0)
         self.assert_ends(survey, 0, 10, 10, 10, 3, 4, 0)
 
+    def test_points_that_are_no_corners(self) -> None:
+        """Inside, on an edge, and on a prolonged one, where the area grows."""
+        survey = survey_of([(0, 0, 1), (12, 0, 2), (0, 12, 3)])
+        self.assert_ends(survey, 0, 12, 0, 12, 1, 3, 1872)
+        survey.add(3, 3, 4)
+        self.assert_ends(survey, 0, 12, 0, 12, 1, 4, 1621)
+        survey.add(6, 6, 5)
+        self.assert_ends(survey, 0, 12, 0, 12, 1, 5, 1450)
+        survey.add(0, 13, 6)
+        self.assert_ends(survey, 0, 12, 0, 13, 1, 6, 1377)
+        survey.drop(0, 12)
+        self.assert_ends(survey, 0, 12, 0, 13, 1, 6, 1509)
+        survey.drop(0, 0)
+        self.assert_ends(survey, 0, 12, 0, 13, 2, 6, 1215)
+
     def test_change_inward(self) -> None:
         survey = survey_of([(0, 0, -128), (10, 10, 5), (20, 0, 127)])
-        self.assert_ends(survey, 0, 20, 0, 10, -128, 127, 3120)
+        self.assert_ends(survey, 0, 20, 0, 10, -128, 127, 2206)
         survey.change(0, 0, 6)
-        self.assert_ends(survey, 0, 20, 0, 10, 5, 127, 3120)
+        self.assert_ends(survey, 0, 20, 0, 10, 5, 127, 2206)
         survey.change(20, 0, 4)
-        self.assert_ends(survey, 0, 20, 0, 10, 4, 6, 3120)
+        self.assert_ends(survey, 0, 20, 0, 10, 4, 6, 2206)
 
     def test_refused_calls_keep_them(self) -> None:
         survey = survey_of([(10, 20, -3), (30, 50, 4), (40, 20, 9)])
-        held = (10, 40, 20, 50, -3, 9, 6618)
+        held = (10, 40, 20, 50, -3, 9, 4680)
         self.assert_ends(survey, *held)
         for number, call, arguments in (
             (1, survey.add, (0, 4096, 100)),
@@ -291,11 +433,13 @@ class Ends(RefusalCase):
     def test_load_and_full_survey(self) -> None:
         survey = survey_of([(4095, 4095, 127)])
         survey.load(exact_files.survey_file([exact.Point(i, i, i - 128) for i in range(256)]))
-        self.assert_ends(survey, 0, 255, 0, 255, -128, 127, 6090)
-        self.assert_refused(5, survey.add, 4095, 4095, 0)
-        self.assert_ends(survey, 0, 255, 0, 255, -128, 127, 6090)
+        self.assert_ends(survey, 0, 255, 0, 255, -128, 127, 0)
+        self.assert_refused(5, survey.add, 4095, 0, 0)
+        self.assert_ends(survey, 0, 255, 0, 255, -128, 127, 0)
         survey.drop(255, 255)
-        self.assert_ends(survey, 0, 254, 0, 254, -128, 126, 6078)
+        self.assert_ends(survey, 0, 254, 0, 254, -128, 126, 0)
+        survey.add(4095, 0, 0)
+        self.assert_ends(survey, 0, 4095, 0, 254, -128, 126, 17_223)
 
     def test_after_every_call(self) -> None:
         """They are those of a fresh survey to which the same points were added."""
@@ -433,8 +577,8 @@ class EsriTexts(RefusalCase):
 
     def test_made_to_be_rounded_either_way(self) -> None:
         rng = Random(23)
-        for _ in range(100):
-            points, numbers = free_rounding.make(rng)
+        for index in range(100):
+            points, numbers = free_rounding.make(rng, index)
             cells = survey_of(points).exact_cells(Grid(*numbers))
             free = sum(len(answers(lookup)) == 2 for lookup in cells)
             self.assertIn(free, (numbers[4], numbers[5]))
