@@ -14,7 +14,7 @@ FACE = """
     many_lookups whole_files file_edits file_lookups file_neighbours file_grids grid_files shepard
 """
 BELOW = """
-    model laws numbers relative_error floats root digits point_arrays shift locate extent
+    model laws numbers relative_error floats root digits point_arrays shift locate polygon extent
     trailer read_points write_points metric squares candidates neighbours influence weights
     weighted_mean error_bound lookup refusals neighbour_records grid_rules grid_cells grid_bytes
     grid_trailer esri_cells esri_text grid_io neighbour_bytes file_access print

@@ -24,19 +24,18 @@ turnsLeft a b c = ltb (crossMinus a b c) (crossPlus a b c)
 unfoldable pub turnsRight : Location → Location → Location → Bool
 turnsRight a b c = ltb (crossPlus a b c) (crossMinus a b c)
 
--- A chain of locations, the last one first, that turns one way at each of its inner ones. turn a b p: the way from a by b to p turns so.
-module _ (turn : Location → Location → Location → Bool) where
-  -- the chain without those at its end where the way on to p does not turn so
-  unfoldable pub trim : List Location → Location → List Location
-  trim [] p = []
-  trim (b ∷ []) p = b ∷ []
-  trim (b ∷ a ∷ r) p = cond (turn a b p) (b ∷ a ∷ r) (trim (a ∷ r) p)
+-- A side is a chain of locations, the last one first, that turns one way at each of its inner ones. turn a b p: the way from a by b to p turns so.
+-- trim: the chain without those at its end where the way on to p does not turn so
+unfoldable pub trim : (Location → Location → Location → Bool) → List Location → Location → List Location
+trim turn [] p = []
+trim turn (b ∷ []) p = b ∷ []
+trim turn (b ∷ a ∷ r) p = cond (turn a b p) (b ∷ a ∷ r) (trim turn (a ∷ r) p)
 
-  -- the chain, on to each location of a list
-  unfoldable pub extend : List Location → List Location → List Location
-  unfolding trim
-  extend s [] = s
-  extend s (p ∷ l) = extend (p ∷ trim s p) l
+-- the chain, on to each location of a list
+unfoldable pub extend : (Location → Location → Location → Bool) → List Location → List Location → List Location
+unfolding trim
+extend turn s [] = s
+extend turn s (p ∷ l) = extend turn (p ∷ trim turn s p) l
 
 -- the lower and the upper side, each from the last location to the first
 unfoldable pub lower : List Location → List Location
