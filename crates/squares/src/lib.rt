@@ -63,7 +63,7 @@ pub fn limit_for(squares: &[u32], k: u32, reach: u32) -> u32
         return u32::MAX;
     }
     if k <= 4 {
-        return limit::sought(squares, reach, u32::MAX, 5);
+        return limit::of_five(squares, reach);
     }
     if k <= 16 {
         return reach;
