@@ -121,8 +121,8 @@ class Values(unittest.TestCase):
     def test_kinds(self) -> None:
         survey = shepard.Survey.from_file(
             bytes.fromhex(
-                "005A003BF4 005F0032FA 0061003BEC 00620032F9 00650031F7 0068002EF2 006C002AF1 006D0035EF"
-                "0008 00000028 0C56 524C5331"
+                "0053003BF4 005F0032FA 0061003BEC 00620032F9 00650031F7 00660021F1 0068002EF2 006D0035EF"
+                "0008 00000028 0C40 524C5331"
             )
         )
         found, neighbours = survey.lookup_neighbours(100, 50)

@@ -15,13 +15,13 @@ from exact import Point, Refused
 FOUR = [Point(100, 200, -3), Point(900, 250, -11), Point(1800, 2100, -30), Point(3900, 1200, -64)]
 FOUR_GRID = (0, 0, 1000, 1000, 5, 3)
 EIGHT = [
-    Point(90, 59, -12),
+    Point(83, 59, -12),
     Point(95, 50, -6),
     Point(97, 59, -20),
     Point(98, 50, -7),
     Point(101, 49, -9),
+    Point(102, 33, -15),
     Point(104, 46, -14),
-    Point(108, 42, -15),
     Point(109, 53, -17),
 ]
 EIGHT_GRID = (98, 50, 2, 9, 2, 2)
