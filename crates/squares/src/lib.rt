@@ -1,4 +1,5 @@
 // Squared distances d² of all points from a location, and which points are within a limit: the first of them in order are the first of all.
+mod guess;
 mod limit;
 
 ghost use mathlib.Core.Path.{_≡_};

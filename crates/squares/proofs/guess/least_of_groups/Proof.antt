@@ -1,11 +1,10 @@
 -- `least_of_groups` is safe, and ends.
 use Prim.Native.Nat.{_-_, _≤_}
-use mathlib.Core.Path.{_≡_}
 use native.Mathlib.Omega.{arith}
-use lib.ListN.{length, length-set}
+use lib.ListN.{length}
 use borrow.Author.Needs.{needs}
-use Rattle.squares.proofs.limit.least_of_groups.Statement.{statement}
-use Rattle.squares.proofs.limit.least_of_groups.Tie as tie
+use Rattle.squares.proofs.guess.least_of_groups.Statement.{statement}
+use Rattle.squares.proofs.guess.least_of_groups.Tie as tie
 
 abbrev Inv-loop : tie.InvT-loop
 Inv-loop squares least₀ i₀ least i = i ≤ length squares

@@ -1,11 +1,9 @@
 -- `fifth` is safe, and ends.
 use Prim.Native.Nat.{_-_, _≤_}
-use mathlib.Core.Path.{_≡_}
 use native.Mathlib.Omega.{arith}
-use lib.ListN.{length, length-set}
 use borrow.Author.Needs.{needs}
-use Rattle.squares.proofs.limit.fifth.Statement.{statement}
-use Rattle.squares.proofs.limit.fifth.Tie as tie
+use Rattle.squares.proofs.guess.fifth.Statement.{statement}
+use Rattle.squares.proofs.guess.fifth.Tie as tie
 
 abbrev Inv-loop : tie.InvT-loop
 Inv-loop eight five₀ j₀ five j = j ≤ 8

@@ -4,8 +4,8 @@ use mathlib.Core.Path.{_≡_}
 use native.Mathlib.Omega.{arith}
 use lib.ListN.{length, length-set}
 use borrow.Author.Needs.{needs}
-use Rattle.squares.proofs.limit.least_of_eight.Statement.{statement}
-use Rattle.squares.proofs.limit.least_of_eight.Tie as tie
+use Rattle.squares.proofs.guess.least_of_eight.Statement.{statement}
+use Rattle.squares.proofs.guess.least_of_eight.Tie as tie
 
 abbrev Inv-loop : tie.InvT-loop
 Inv-loop squares i a₀ j₀ a j = (j ≤ 8) × (length a ≡ 8)

@@ -4,8 +4,8 @@ use mathlib.Core.Path.{_≡_}
 use native.Mathlib.Omega.{arith}
 use lib.ListN.{length, length-set}
 use borrow.Author.Needs.{needs}
-use Rattle.squares.proofs.limit.put.Statement.{statement}
-use Rattle.squares.proofs.limit.put.Tie as tie
+use Rattle.squares.proofs.guess.put.Statement.{statement}
+use Rattle.squares.proofs.guess.put.Tie as tie
 
 abbrev Inv-loop : tie.InvT-loop
 Inv-loop n a₀ c₀ j₀ a c j = (j ≤ 5) × (length a ≡ 5)
