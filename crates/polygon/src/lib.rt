@@ -32,7 +32,7 @@ fn turns(up: bool, ax: u16, ay: u16, bx: u16, by: u16, cx: u16, cy: u16) -> bool
     minus < plus
 }
 
-// How many corners of a side stay when it goes on to the point (px, py): those behind the last one where the way turns.
+// How many corners of a side stay when it goes on to (px, py): the last ones go as long as the way by them does not turn.
 fn staying<'a>(
     xs: &'a [u16; 256],
     ys: &'a [u16; 256],
