@@ -1,12 +1,12 @@
 -- How much locations can enclose, in whatever order they stand: `enclosed-most`.
-use Prim.Native.Nat.{ℕ, suc, _+_, _*_, _-_, _≤_}
-use mathlib.Core.Path.{_≡_, refl}
+use Prim.Native.Nat.{ℕ, suc, _+_, _*_, _≤_}
+use mathlib.Core.Path.{refl}
 use mathlib.Core.Logic.{inl, inr}
 use mathlib.Core.Bool.{Bool, true, false, cond}
-use mathlib.Core.List.{List, [], _∷_, reverseAux}
+use mathlib.Core.List.{List, [], _∷_}
 use native.Mathlib.Omega.{arith}
 use native.Mathlib.Nat.{mul-le-mul, mul-le-mul-right}
-use lib.ListN.{length, drop}
+use lib.ListN.{length, drop, length-drop, length-reverseAux}
 use Rattle.model.specs.Lists.{Among}
 use Rattle.model.specs.Point.{Location}
 use Rattle.model.specs.Polygon.{trim, extend, turnsLeft, turnsRight, lower, upper, polygon, shoelacePlus, enclosed}
@@ -28,19 +28,11 @@ module _ (f : Location → Location → Location → Bool) where
   length-extend [] s = omega arith
   length-extend (p ∷ l) s = let h = length-extend l (p ∷ trim f s p) in let k = length-trim p s in omega arith
 
-length-reversed : {A : Type 0} (s l : List A) → length (reverseAux s l) ≡ length s + length l
-length-reversed [] l = omega arith
-length-reversed (a ∷ s) l = let h = length-reversed s (a ∷ l) in omega arith
-
-length-tail : {A : Type 0} (s : List A) → length (drop 1 s) ≤ length s
-length-tail [] = omega arith
-length-tail (a ∷ s) = omega arith
-
 length-polygon : (l : List Location) → length (polygon l) ≤ 2 * length l
 unfolding polygon lower upper
 length-polygon l =
-    let a = length-reversed (drop 1 (lower l)) (upper l) in
-    let b = length-tail (lower l) in
+    let a = length-reverseAux (drop 1 (lower l)) (upper l) in
+    let b = length-drop 1 (lower l) in
     let c : length (lower l) ≤ 0 + length l = length-extend turnsLeft l [] in
     let d : length (upper l) ≤ 0 + length l = length-extend turnsRight l [] in
     omega arith

@@ -1,5 +1,5 @@
 -- What `enclosed` is: twice the area of the triangles from any location to the edges, added up; zero where all locations are on one line; and the shoelace sums by side.
-use Prim.Native.Nat.{ℕ, _+_, _*_, _-_, _≤_}
+use Prim.Native.Nat.{ℕ, _+_, _*_, _≤_}
 use mathlib.Core.Path.{_≡_, refl, sym, subst}
 use mathlib.Core.Logic.{inl, inr}
 use mathlib.Core.List.{List, [], _∷_, reverseAux}

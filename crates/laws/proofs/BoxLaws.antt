@@ -4,12 +4,12 @@ use mathlib.Core.Path.{_≡_, refl, sym, subst}
 use mathlib.Core.Logic.{inl, inr}
 use mathlib.Core.List.{List, [], _∷_}
 use native.Mathlib.Omega.{arith}
-use native.Mathlib.Nat.{mul-le-mul-left, mul-le-mul-right}
+use native.Mathlib.Nat.{mul-le-mul-left, mul-le-mul-right, add-sub-of-le}
 use Rattle.model.specs.Lists.{All, Pairs, Steps, Among}
 use Rattle.model.specs.Point.{Location}
 use Rattle.model.specs.Polygon.{lower, upper, polygon, shoelacePlus, shoelaceMinus, enclosed, Before, IsArea}
 use Rattle.laws.proofs.ListLaws.{all-among}
-use Rattle.laws.proofs.SideLaws.{as-sum, before-x}
+use Rattle.laws.proofs.SideLaws.{before-x}
 use Rattle.laws.proofs.RingLaws.{Ends, Tops, tops, steps-imp, lower-rises, upper-rises, lower-ends, upper-ends, lower-among, upper-among}
 use Rattle.laws.proofs.AreaLaws.{enclosed-whole, line-enclosed, plus-sides, minus-sides}
 use Rattle.laws.proofs.FlatLaws.{first-least, flat-only}
@@ -31,10 +31,10 @@ edge-high ax d ay ty k g h =
     omega arith
 
 low-at : (a t : Location) (k : ℕ) → a .x ≤ t .x → k ≤ a .y → k ≤ t .y → t .y * a .x + a .x * a .y + 2 * k * t .x ≤ t .x * a .y + t .x * t .y + 2 * k * a .x
-low-at a t k x g h = rw (← as-sum (a .x) (t .x) x) at (edge-low (a .x) (t .x - a .x) (a .y) (t .y) k g h)
+low-at a t k x g h = rw (add-sub-of-le x) at (edge-low (a .x) (t .x - a .x) (a .y) (t .y) k g h)
 
 high-at : (a t : Location) (k : ℕ) → a .x ≤ t .x → a .y ≤ k → t .y ≤ k → t .x * a .y + t .x * t .y + 2 * k * a .x ≤ t .y * a .x + a .x * a .y + 2 * k * t .x
-high-at a t k x g h = rw (← as-sum (a .x) (t .x) x) at (edge-high (a .x) (t .x - a .x) (a .y) (t .y) k g h)
+high-at a t k x g h = rw (add-sub-of-le x) at (edge-high (a .x) (t .x - a .x) (a .y) (t .y) k g h)
 
 chain-low : (k : ℕ) (t z : Location) (r : List Location) → Steps Ascent (t ∷ r) → ((q : Location) → Among q (t ∷ r) → k ≤ q .y) → Ends z (t ∷ r)
     → shoelaceMinus (t ∷ r) + z .x * z .y + 2 * k * t .x ≤ shoelacePlus (t ∷ r) + t .x * t .y + 2 * k * z .x

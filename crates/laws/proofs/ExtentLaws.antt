@@ -2,7 +2,7 @@
 -- A dropped corner shrinks the rectangle again, where no other point holds its edge.
 use mathlib.Core.Path.{_≡_, refl, ap}
 use mathlib.Core.Logic.{_⊎_, inl, inr, ⊎-swap}
-use Prim.Native.Nat.{ℕ, _-_, _*_, _/_, _^_, _≤_, _<_, min, max}
+use Prim.Native.Nat.{ℕ, _*_, _/_, _^_, _≤_, _<_, min, max}
 use native.Mathlib.Nat.{le-refl, le-of-mul-le-mul-right, le-div-iff-mul-le}
 use native.Mathlib.Omega.{arith, min-cases, max-cases}
 use mathlib.Core.Bool.{Bool, true, false, cond}

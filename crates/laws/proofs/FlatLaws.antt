@@ -1,15 +1,16 @@
 -- Locations that ascend enclose nothing only where all are on one line.
-use Prim.Native.Nat.{zero, _-_, _≤_}
+use Prim.Native.Nat.{_≤_, _<_}
 use mathlib.Core.Path.{_≡_, refl, sym, subst}
 use mathlib.Core.Logic.{_⊎_, inl, inr, ⊎-elim}
 use mathlib.Core.List.{List, [], _∷_}
+use lib.ListN.{length}
 use native.Mathlib.Omega.{arith}
 use Rattle.model.specs.Lists.{All, Pairs, Steps, Among}
 use Rattle.model.specs.Point.{Location}
 use Rattle.model.specs.Polygon.{polygon, enclosed, crossPlus, crossMinus, Before, OneLine}
 use Rattle.laws.proofs.ListLaws.{all-among}
 use Rattle.laws.proofs.SideLaws.{NotAfter, left-next, weaken, line-through}
-use Rattle.laws.proofs.RingLaws.{Begins, steps-imp, polygon-closed, none-outside, corners-among, polygon-long, polygon-moves, Long}
+use Rattle.laws.proofs.RingLaws.{Begins, steps-imp, polygon-closed, none-outside, corners-among, polygon-long, polygon-moves}
 use Rattle.laws.proofs.AreaLaws.{fanPlus, fanMinus, closed-fan, fan-le, enclosed-whole}
 
 fan-flat : (o : Location) (l : List Location) → Steps (λ a b. crossMinus o a b ≤ crossPlus o a b) l → fanPlus o l ≡ fanMinus o l → Steps (λ a b. crossPlus o a b ≡ crossMinus o a b) l
@@ -43,11 +44,11 @@ pub first-least : (a z : Location) (l : List Location) → All (Before a) l → 
 first-least a z l up m =
     ⊎-elim (λ e. subst (λ (t : Location). NotAfter a t) (sym e) (record { x-le = omega arith; y-le = λ k. omega arith })) (λ n. weaken a z (all-among (Before a) l up z n)) m
 
-flat-line : (a : Location) (l w : List Location) → Begins a w → Long w → Steps (λ u v. Before u v ⊎ Before v u) w → All (Before a) l
+flat-line : (a : Location) (l w : List Location) → Begins a w → 1 < length w → Steps (λ u v. Before u v ⊎ Before v u) w → All (Before a) l
     → ((q : Location) → Among q w → Among q (a ∷ l))
     → ((q : Location) → Among q (a ∷ l) → Steps (λ u v. crossPlus q u v ≡ crossMinus q u v) w) → OneLine (a ∷ l)
 flat-line a l [] b long moves up on h p q r mp mq mr = absurd b
-flat-line a l (u ∷ []) b long moves up on h p q r mp mq mr = absurd long
+flat-line a l (u ∷ []) b long moves up on h p q r mp mq mr = absurd (omega arith)
 flat-line a l (u ∷ v ∷ w) b long moves up on h p q r mp mq mr =
     let av : Before a v = first-before a v l up (on v (inr (inl refl))) (subst (λ (t : Location). Before t v ⊎ Before v t) b (moves .0)) in
     let at : (z : Location) → Among z (a ∷ l) → crossPlus a v z ≡ crossMinus a v z = λ z m. on-line z (h z m .0) in

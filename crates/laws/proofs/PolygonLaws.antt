@@ -16,7 +16,7 @@ use Rattle.laws.proofs.ListLaws.{all-any, all-imp, all-among, pairs-map
 use Rattle.laws.proofs.PrecedesLaws.{lexical-true}
 use Rattle.laws.proofs.ChainLaws.{Bends}
 use Rattle.laws.proofs.SideLaws.{NotAfter, weaken, before-x, left-cofan, left-back, back-left, way-trans}
-use Rattle.laws.proofs.RingLaws.{Begins, Ends, Tops, tops, Long, polygon-closed, polygon-long, corners-among, none-outside, lower-rises, lower-bends, lower-edges, lower-among, upper-rises, upper-edges, upper-ends, upper-among}
+use Rattle.laws.proofs.RingLaws.{Begins, Ends, Tops, tops, polygon-closed, polygon-long, corners-among, none-outside, lower-rises, lower-bends, lower-edges, lower-among, upper-rises, upper-edges, upper-ends, upper-among}
 use Rattle.laws.proofs.FlatLaws.{twice, first-least, flat-only}
 use Rattle.laws.proofs.ConvexLaws.{EndsBy, polygon-turns, polygon-wraps}
 
@@ -177,14 +177,9 @@ ends-take a [] r h = absurd h
 ends-take a (b ∷ []) r h = ap (λ (z : Location). z ∷ []) h
 ends-take a (b ∷ c ∷ w) r h = ends-take a (c ∷ w) (b ∷ r) h
 
-long-length : (w : List Location) → Long w → 1 < length w
-long-length [] h = absurd h
-long-length (a ∷ []) h = absurd h
-long-length (a ∷ b ∷ w) h = omega arith
-
 polygon-goes : (a : Location) (l : List Location) → 1 < length (a ∷ l) → 1 < length (polygon (a ∷ l))
 polygon-goes a [] h = absurd (omega arith)
-polygon-goes a (b ∷ l) h = long-length (polygon (a ∷ b ∷ l)) (polygon-long a b l)
+polygon-goes a (b ∷ l) h = polygon-long a b l
 
 pub polygon-is : (l : List Location) → Pairs Before l → IsPolygon l (polygon l)
 unfolding polygon

@@ -1,10 +1,11 @@
 -- The two sides joined to a ring: its corners are among the locations, it comes back to the first of them, no location lies outside it, and its sides bend one way.
-use Prim.Native.Nat.{_-_}
+use Prim.Native.Nat.{_<_}
+use native.Mathlib.Omega.{arith}
 use mathlib.Core.Path.{_≡_, refl, sym, subst}
 use mathlib.Core.Logic.{_⊎_, inl, inr, ⊎-elim}
 use mathlib.Core.Bool.{Bool, true, false, cond}
-use lib.ListN.{drop}
 use mathlib.Core.List.{List, [], _∷_, reverseAux}
+use lib.ListN.{length, drop, length-reverseAux}
 use Rattle.model.specs.Lists.{Pairs, Steps, Among}
 use Rattle.model.specs.Point.{Location}
 use Rattle.model.specs.Polygon.{trim, extend, turnsLeft, turnsRight, lower, upper, polygon, Left, Before}
@@ -28,6 +29,10 @@ Tops [] (b ∷ t) = ⊥
 Tops (a ∷ s) [] = ⊥
 Tops (a ∷ s) (b ∷ t) = a ≡ b
 
+ends-more : {A : Type 0} (z p : A) (s : List A) → Ends z s → Ends z (p ∷ s)
+ends-more z p [] h = absurd h
+ends-more z p (b ∷ r) h = h
+
 module _ (f : Location → Location → Location → Bool) where
   trim-among : (q p : Location) (s : List Location) → Among q (trim f s p) → Among q s
   unfolding trim
@@ -43,10 +48,6 @@ module _ (f : Location → Location → Location → Bool) where
   unfolding extend
   extend-among q [] s m = inl m
   extend-among q (p ∷ l) s m = ⊎-elim (λ k. ⊎-elim (λ e. inr (inl e)) (λ j. inl (trim-among q p s j)) k) (λ k. inr (inr k)) (extend-among q l (p ∷ trim f s p) m)
-
-  ends-more : (z p : Location) (s : List Location) → Ends z s → Ends z (p ∷ s)
-  ends-more z p [] h = absurd h
-  ends-more z p (b ∷ r) h = h
 
   trim-ends : (z p : Location) (s : List Location) → Ends z s → Ends z (trim f s p)
   unfolding trim
@@ -71,11 +72,7 @@ same-top f g (p ∷ l) s t h = same-top f g l (p ∷ trim f s p) (p ∷ trim g t
 module _ {A : Type 0} where
   ends-reverse : (z : A) (s l : List A) → Ends z l → Ends z (reverseAux s l)
   ends-reverse z [] l h = h
-  ends-reverse z (a ∷ s) l h = ends-reverse z s (a ∷ l) (more l h)
-    where
-      more : (l : List A) → Ends z l → Ends z (a ∷ l)
-      more [] h = absurd h
-      more (b ∷ r) h = h
+  ends-reverse z (a ∷ s) l h = ends-reverse z s (a ∷ l) (ends-more z a l h)
 
   begins-reverse : (z c : A) (s l : List A) → Ends z (c ∷ s) → Begins z (reverseAux s (c ∷ l))
   begins-reverse z c [] l h = h
@@ -106,15 +103,6 @@ tail-among : {A : Type 0} (q : A) (s : List A) → Among q (drop 1 s) → Among 
 tail-among q [] m = m
 tail-among q (a ∷ s) m = inr m
 
--- each corner is among the locations, in whatever order they stand
-pub corners-among : (l : List Location) (q : Location) → Among q (polygon l) → Among q l
-unfolding polygon lower upper
-corners-among l q m =
-    ⊎-elim (λ k. from (extend-among turnsLeft q l [] (tail-among q (lower l) k))) (λ k. from (extend-among turnsRight q l [] k)) (reverse-among q (drop 1 (lower l)) (upper l) m)
-  where
-    from : Among q [] ⊎ Among q l → Among q l
-    from h = ⊎-elim (λ k. absurd k) (λ k. k) h
-
 -- each side ends at the first location, and its own are among the locations
 pub lower-ends : (a : Location) (l : List Location) → Ends a (lower (a ∷ l))
 unfolding lower extend trim
@@ -132,31 +120,34 @@ pub upper-among : (l : List Location) (q : Location) → Among q (upper l) → A
 unfolding upper
 upper-among l q m = ⊎-elim (λ k. absurd k) (λ k. k) (extend-among turnsRight q l [] m)
 
+-- each corner is among the locations, in whatever order they stand
+pub corners-among : (l : List Location) (q : Location) → Among q (polygon l) → Among q l
+unfolding polygon
+corners-among l q m =
+    ⊎-elim (λ k. lower-among l q (tail-among q (lower l) k)) (upper-among l q) (reverse-among q (drop 1 (lower l)) (upper l) m)
+
 -- the corners go from the first location round to it
 pub record Closed (a : Location) (l : List Location) : Type 0 where
   pub begins : Begins a l
   pub ends : Ends a l
 
 pub polygon-closed : (a : Location) (l : List Location) → Closed a (polygon (a ∷ l))
-unfolding polygon lower upper extend trim
+unfolding polygon
 polygon-closed a l = record {
-  begins = start (lower (a ∷ l)) (upper (a ∷ l)) (tops (a ∷ l)) (from turnsLeft);
-  ends = ends-reverse a (drop 1 (lower (a ∷ l))) (upper (a ∷ l)) (from turnsRight);
+  begins = start (lower (a ∷ l)) (upper (a ∷ l)) (tops (a ∷ l)) (lower-ends a l);
+  ends = ends-reverse a (drop 1 (lower (a ∷ l))) (upper (a ∷ l)) (upper-ends a l);
 }
   where
-    from : (f : Location → Location → Location → Bool) → Ends a (extend f [] (a ∷ l))
-    from f = extend-ends f a l (a ∷ []) refl
-
     start : (s t : List Location) → Tops s t → Ends a s → Begins a (reverseAux (drop 1 s) t)
     start [] t e h = absurd h
     start (b ∷ s) [] e h = absurd e
     start (b ∷ s) (c ∷ t) e h = subst (λ (z : Location). Begins a (reverseAux s (z ∷ t))) e (begins-reverse a b s t h)
 
-pub lower-holds : (l : List Location) → Pairs Before l → Holds Before NotAfter Left turnsLeft lower-laws (reverseAux l []) (lower l)
+lower-holds : (l : List Location) → Pairs Before l → Holds Before NotAfter Left turnsLeft lower-laws (reverseAux l []) (lower l)
 unfolding lower
 lower-holds l h = chain-holds Before NotAfter Left turnsLeft lower-laws l h
 
-pub upper-holds : (l : List Location) → Pairs Before l → Holds Before NotAfter Right turnsRight upper-laws (reverseAux l []) (upper l)
+upper-holds : (l : List Location) → Pairs Before l → Holds Before NotAfter Right turnsRight upper-laws (reverseAux l []) (upper l)
 unfolding upper
 upper-holds l h = chain-holds Before NotAfter Right turnsRight upper-laws l h
 
@@ -184,51 +175,27 @@ lower-rises l h = lower-holds l h .rises
 pub upper-rises : (l : List Location) → Pairs Before l → Steps (λ b a. Before a b) (upper l)
 upper-rises l h = upper-holds l h .rises
 
--- two or more elements
-abbrev pub Long : {A : Type 0} → List A → Type 0
-Long [] = ⊥
-Long (a ∷ []) = ⊥
-Long (a ∷ b ∷ l) = Unit {0}
-
-abbrev Some : {A : Type 0} → List A → Type 0
-Some [] = ⊥
-Some (a ∷ l) = Unit {0}
-
+-- of two locations or more the polygon goes on from the first
 module _ (f : Location → Location → Location → Bool) where
-  trim-some : (p : Location) (s : List Location) → Some s → Some (trim f s p)
+  trim-some : (p : Location) (s : List Location) → 0 < length s → 0 < length (trim f s p)
   unfolding trim
   trim-some p [] h = h
   trim-some p (b ∷ []) h = h
-  trim-some p (b ∷ a ∷ r) h = go (f a b p) (trim-some p (a ∷ r) tt)
+  trim-some p (b ∷ a ∷ r) h = go (f a b p) (trim-some p (a ∷ r) (omega arith))
     where
-      go : (t : Bool) → Some (trim f (a ∷ r) p) → Some (cond t (b ∷ a ∷ r) (trim f (a ∷ r) p))
-      go true ih = tt
+      go : (t : Bool) → 0 < length (trim f (a ∷ r) p) → 0 < length (cond t (b ∷ a ∷ r) (trim f (a ∷ r) p))
+      go true ih = omega arith
       go false ih = ih
 
-  long-some : (p : Location) (s : List Location) → Some s → Long (p ∷ s)
-  long-some p [] h = absurd h
-  long-some p (a ∷ s) h = tt
-
-  some-long : (s : List Location) → Long s → Some s
-  some-long [] h = h
-  some-long (a ∷ s) h = tt
-
-  extend-long : (l s : List Location) → Long s → Long (extend f s l)
+  extend-long : (l s : List Location) → 1 < length s → 1 < length (extend f s l)
   unfolding extend
   extend-long [] s h = h
-  extend-long (p ∷ l) s h = extend-long l (p ∷ trim f s p) (long-some p (trim f s p) (trim-some p s (some-long s h)))
+  extend-long (p ∷ l) s h = let k = trim-some p s (omega arith) in extend-long l (p ∷ trim f s p) (omega arith)
 
-long-reverse : {A : Type 0} (s l : List A) → Long l → Long (reverseAux s l)
-long-reverse {A = A} [] l h = h
-long-reverse {A = A} (a ∷ s) l h = long-reverse s (a ∷ l) (more l h)
-  where
-    more : (l : List A) → Long l → Long (a ∷ l)
-    more [] h = absurd h
-    more (b ∷ l) h = tt
-
-pub polygon-long : (a b : Location) (l : List Location) → Long (polygon (a ∷ b ∷ l))
+pub polygon-long : (a b : Location) (l : List Location) → 1 < length (polygon (a ∷ b ∷ l))
 unfolding polygon upper extend trim
-polygon-long a b l = long-reverse (drop 1 (lower (a ∷ b ∷ l))) (upper (a ∷ b ∷ l)) (extend-long turnsRight l (b ∷ a ∷ []) tt)
+polygon-long a b l =
+    omega (arith, length-reverseAux (drop 1 (lower (a ∷ b ∷ l))) (upper (a ∷ b ∷ l)), extend-long turnsRight l (b ∷ a ∷ []) (omega arith))
 
 -- each corner is at another location than the next
 pub polygon-moves : (l : List Location) → Pairs Before l → Steps (λ a b. Before a b ⊎ Before b a) (polygon l)

@@ -2,7 +2,7 @@
 use Prim.Native.Nat.{ℕ, zero, suc, _+_, _*_, _-_, _≤_, _<_}
 use mathlib.Core.Path.{_≡_, refl, ap}
 use mathlib.Core.Logic.{_⊎_, inl, inr, ⊎-elim}
-use native.Mathlib.Nat.{mul-le-mul-right, le-of-mul-le-mul-right}
+use native.Mathlib.Nat.{mul-le-mul-left, mul-le-mul-right, le-of-mul-le-mul-right, add-sub-of-le}
 use native.Mathlib.Decide.{decLe}
 use native.Mathlib.Omega.{arith}
 use borrow.Author.Tests.{ltb-true, ltb-false}
@@ -27,7 +27,7 @@ turn-up : (ux up um vp vm wx wp wm : ℕ) → vm < vp → (wx ≡ 0 → wm ≤ w
 turn-up ux up um vp vm wx wp wm v w h = elim (decLe wx 0) [
   | yes z ↦
       let e : wx ≡ 0 = omega arith in
-      let k : ux * wm ≤ ux * wp = native.Mathlib.Nat.mul-le-mul-left ux (w e) in
+      let k : ux * wm ≤ ux * wp = mul-le-mul-left ux (w e) in
       rw e (omega arith)
   | no z ↦
       let k : suc vm * wx ≤ vp * wx = mul-le-mul-right wx v in
@@ -91,35 +91,31 @@ before-x a b h = ⊎-elim (λ k. omega arith) (λ k. omega arith) h
 before-y : (a b : Location) → Before a b → a .x ≡ b .x → a .y < b .y
 before-y a b h e = ⊎-elim (λ k. absurd (omega arith)) (λ k. k .1) h
 
--- the x differences, as sums
-pub as-sum : (m n : ℕ) → m ≤ n → n ≡ m + (n - m)
-as-sum m n h = omega arith
-
 left-fan : (a b c : Location) → a .x ≤ b .x → a .x ≤ c .x → Left a b c → Way a b a c
 left-fan a b c g h k =
     fan-to (a .y) (b .y) (c .y) (a .x) (b .x - a .x) (c .x - a .x)
-    (rw (← as-sum (a .x) (b .x) g, ← as-sum (a .x) (c .x) h) (k .le))
+    (rw (add-sub-of-le g, add-sub-of-le h) (k .le))
 
 fan-left : (a b c : Location) → a .x ≤ b .x → a .x ≤ c .x → Way a b a c → Left a b c
 fan-left a b c g h k =
-    record { le = rw (← as-sum (a .x) (b .x) g, ← as-sum (a .x) (c .x) h) at (fan-from (a .y) (b .y) (c .y) (a .x) (b .x - a .x) (c .x - a .x) k) }
+    record { le = rw (add-sub-of-le g, add-sub-of-le h) at (fan-from (a .y) (b .y) (c .y) (a .x) (b .x - a .x) (c .x - a .x) k) }
 
 module _ (a b c : Location) (g : a .x ≤ b .x) (h : b .x ≤ c .x) where
   left-chain : Left a b c → Way a b b c
-  left-chain k = chain-to (a .y) (b .y) (c .y) (a .x) (b .x - a .x) (c .x - b .x) (rw (← as-sum (a .x) (b .x) g, ← as-sum (b .x) (c .x) h) (k .le))
+  left-chain k = chain-to (a .y) (b .y) (c .y) (a .x) (b .x - a .x) (c .x - b .x) (rw (add-sub-of-le g, add-sub-of-le h) (k .le))
 
   chain-left : Way a b b c → Left a b c
-  chain-left k = record { le = rw (← as-sum (a .x) (b .x) g, ← as-sum (b .x) (c .x) h) at (chain-from (a .y) (b .y) (c .y) (a .x) (b .x - a .x) (c .x - b .x) k) }
+  chain-left k = record { le = rw (add-sub-of-le g, add-sub-of-le h) at (chain-from (a .y) (b .y) (c .y) (a .x) (b .x - a .x) (c .x - b .x) k) }
 
   pub left-back : Left b a c → Way b c a b
-  left-back k = back-to (a .y) (b .y) (c .y) (a .x) (b .x - a .x) (c .x - b .x) (rw (← as-sum (a .x) (b .x) g, ← as-sum (b .x) (c .x) h) (k .le))
+  left-back k = back-to (a .y) (b .y) (c .y) (a .x) (b .x - a .x) (c .x - b .x) (rw (add-sub-of-le g, add-sub-of-le h) (k .le))
 
   pub back-left : Way b c a b → Left b a c
-  back-left k = record { le = rw (← as-sum (a .x) (b .x) g, ← as-sum (b .x) (c .x) h) at (back-from (a .y) (b .y) (c .y) (a .x) (b .x - a .x) (c .x - b .x) k) }
+  back-left k = record { le = rw (add-sub-of-le g, add-sub-of-le h) at (back-from (a .y) (b .y) (c .y) (a .x) (b .x - a .x) (c .x - b .x) k) }
 
 pub left-cofan : (s t q : Location) → s .x ≤ t .x → q .x ≤ t .x → Left s t q → Way q t s t
 left-cofan s t q g h k =
-    cofan-to (s .x) (s .y) (q .x) (q .y) (t .y) (t .x - s .x) (t .x - q .x) (omega arith) (rw (← as-sum (s .x) (t .x) g) (k .le))
+    cofan-to (s .x) (s .y) (q .x) (q .y) (t .y) (t .x - s .x) (t .x - q .x) (omega arith) (rw (add-sub-of-le g) (k .le))
 
 -- the same three, from another one on
 pub left-next : (a b c : Location) → Left a b c → Left b c a
@@ -240,7 +236,7 @@ line-through a v p q av ap aq e f =
 
 cofan-left : (s t q : Location) → s .x ≤ t .x → q .x ≤ t .x → Way q t s t → Left s t q
 cofan-left s t q g h k =
-    record { le = rw (← as-sum (s .x) (t .x) g) at (cofan-from (s .x) (s .y) (q .x) (q .y) (t .y) (t .x - s .x) (t .x - q .x) (omega arith) k) }
+    record { le = rw (add-sub-of-le g) at (cofan-from (s .x) (s .y) (q .x) (q .y) (t .y) (t .x - s .x) (t .x - q .x) (omega arith) k) }
 
 -- the same, on the line from a location on to the last one
 pub line-to : (x c p q : Location) → Before x c → NotAfter p c → NotAfter q c → crossPlus x c p ≡ crossMinus x c p → crossPlus x c q ≡ crossMinus x c q → crossPlus c p q ≡ crossMinus c p q
