@@ -2,3 +2,4 @@
 pub mod ClaimLaws
 pub mod Texts
 pub mod Files
+pub mod FarOff

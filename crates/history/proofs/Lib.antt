@@ -4,3 +4,4 @@ pub mod Turns
 pub mod Every
 pub mod Runs
 pub mod Archive
+pub mod FarOff

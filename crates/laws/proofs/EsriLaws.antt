@@ -1,23 +1,25 @@
 -- The Esri ASCII grid read back: each cell's text is its own number as a decimal, and the lines are the grid's rows, the last one first.
-use mathlib.Core.Path.{_≡_, refl, _∙_}
+use mathlib.Core.Path.{_≡_, refl, ap, _∙_}
+use mathlib.Core.Logic.{⊎-elim}
 use mathlib.Core.Bool.{Bool, true, _&&_, and-eq-true-iff}
-use mathlib.Core.Option.{some}
+use mathlib.Core.Option.{Option, none, some}
 use Prim.Native.Nat.{ℕ, zero, suc, _+_, _-_, _*_, _/_, _%_, _≤_, _<_, _^_}
-use native.Mathlib.Nat.{mul-one, mul-suc}
+use native.Mathlib.Nat.{eq-or-lt-of-le, mul-one, mul-suc, mul-le-mul-left}
 use native.Mathlib.Omega.{arith}
 use mathlib.Core.List.{List, [], _∷_, _++_, map, flatMap, append-assoc, map-map}
 use lib.Dec.{ltb, lit<}
 use lib.IntN.{ℤ, pos, negsuc}
-use lib.ListN.{length, take, drop, length-append, length-drop}
-use lib.Seq.{take-append-seam, take-append-le, length-take-le}
+use lib.ListN.{length, take, drop, getD, length-append, length-take, length-drop, List·getD-map}
+use lib.Seq.{take-append-seam, take-append-le, length-take-le, getD-take, getD-drop}
 use borrow.Author.Tests.{ltb-true, ne-eqb}
 use Rattle.model.specs.Lists.{All}
 use Rattle.model.specs.Point.{State}
-use Rattle.model.specs.Fraction.{Fraction, Is, timesZ}
+use Rattle.model.specs.Fraction.{Fraction, Signed, Is, timesZ}
 use Rattle.model.specs.Grid.{Grid, cells}
 use Rattle.model.specs.Decimal.{digitsOf, places, decimal, signedDecimal, cut, unsignedIn, decimalRead}
 use Rattle.model.specs.Esri.{sizeText, cellText, spaced, rowLine, ncols, nrows, xllcenter, yllcenter, cellsize, nodata, headerLine, headerLines, ended, rowsDown, textOfCells, esriText, exactCell, exactRow, linesIn, cellsRead}
 use Rattle.laws.proofs.ListLaws.{all-imp, all-take, all-append, all-map, all-any, map-same}
+use Rattle.laws.proofs.MapLaws.{getD-map}
 use Rattle.laws.proofs.GridLaws.{length-cells}
 use Rattle.laws.proofs.IntLaws.{times-times, times-one}
 use Rattle.laws.proofs.DecimalLaws.{Digit, all-digits, length-digits, places-some, digits-back, decimal-back, cut-none, cut-at}
@@ -168,3 +170,23 @@ unfolding cellsRead esriText
 cells-back s g p =
     let l = rowsDown (g .columns) (cells s g) (g .rows) in
     rw (text-lines g (cells s g)) (rows-back l (rows-some (g .columns) (cells s g) (g .rows) p (omega (arith, length-cells s g))))
+
+-- where the row r of n stands, the last one first
+down-at : (c : ℕ) (l : List ℤ) (n r : ℕ) → r < n → getD (rowsDown c l n) (n - 1 - r) [] ≡ take c (drop (c * r) l)
+unfolding rowsDown
+down-at c l zero r h = absurd (omega arith)
+down-at c l (suc n) r h =
+    ⊎-elim
+    (λ (e : r ≡ n). let z : suc n - 1 - r ≡ 0 = omega arith in rw (z, e))
+    (λ (e : r < n). let z : suc n - 1 - r ≡ suc (n - 1 - r) = omega arith in rw z (down-at c l n r e))
+    (eq-or-lt-of-le {n = r} {m = n} (omega arith))
+
+-- the cell of column i and row r among those read back
+pub cell-read : (c : ℕ) (l : List ℤ) (n i r : ℕ) (d : ℤ) → i < c → r < n → length l ≡ c * n
+    → getD (getD (map exactRow (rowsDown c l n)) (n - 1 - r) []) i none ≡ some (exactCell (getD l (c * r + i) d))
+cell-read c l n i r d h k e =
+    let room : c * (r + 1) ≤ c * n = mul-le-mul-left c (omega arith) in
+    let long : i < length (take c (drop (c * r) l)) = omega (arith, room, length-take c (drop (c * r) l), length-drop (c * r) l) in
+    ap (λ (m : List (Option Signed)). getD m i none) (List·getD-map exactRow (rowsDown c l n) (n - 1 - r) [] ∙ ap exactRow (down-at c l n r k))
+    ∙ getD-map (λ a. some (exactCell a)) (take c (drop (c * r) l)) i none d long
+    ∙ ap (λ (a : ℤ). some (exactCell a)) (getD-take c (drop (c * r) l) i d h ∙ getD-drop (c * r) l i d)

@@ -1,20 +1,22 @@
 -- A grid that keeps the rules lies in the domain; what an accepted one has passed; and how many cells and bytes it has.
-use mathlib.Core.Path.{_≡_, refl}
+use mathlib.Core.Path.{_≡_, refl, sym, ap, _∙_, subst}
 use Prim.Native.Nat.{ℕ, zero, suc, _+_, _-_, _*_, _≤_, _<_}
-use native.Mathlib.Nat.{mul-le-mul, mul-le-mul-left, mul-le-mul-right}
+use native.Mathlib.Nat.{eq-or-lt-of-le, mul-le-mul, mul-le-mul-left, mul-le-mul-right}
+use mathlib.Core.Logic.{⊎-elim}
 use native.Mathlib.Omega.{arith}
 use mathlib.Core.Bool.{Bool, true, false, cond, _&&_, and-eq-true-iff}
-use mathlib.Core.List.{List}
+use mathlib.Core.List.{List, _++_}
 use lib.Dec.{ltb, leb, eqb}
 use lib.IntN.{ℤ}
-use lib.ListN.{length, length-append}
+use lib.ListN.{length, getD, length-append, List·getD-append}
+use lib.Seq.{getD-append-add}
 use borrow.Author.Tests.{ltb-false, leb-true, eqb-false, lt-ltb, le-ltb, ne-eqb}
 use Rattle.model.specs.Point.{State}
 use Rattle.model.specs.Answer.{answer}
 use Rattle.model.specs.Refusals.{lookupRefusal, nonEmpty, enough}
 use Rattle.model.specs.Grid.{Grid, axis, proper, cellCount, gridCheck, cellLocation, row, rowsOf, cells}
 use Rattle.model.specs.GridFile.{cellBytes, cellsBytes, gridTrailer, fileOfCells, gridFile, gridFileLength, gridFileRefusal}
-use Rattle.laws.proofs.ListLaws.{length-tabulate, length-flatMap}
+use Rattle.laws.proofs.ListLaws.{getD-tabulate, length-tabulate, length-flatMap}
 use Rattle.laws.proofs.Tests.{cond-zero, cond-sound}
 
 -- what a grid keeps to along an axis that keeps the rules
@@ -69,6 +71,30 @@ module _ (s : State) (g : Grid) where
   pub length-cells : length (cells s g) ≡ cellCount g
   unfolding cells
   length-cells = length-rows (g .rows)
+
+  -- the cell of a column and a row, where it stands among those of the first n rows
+  cell-last : (c n : ℕ) (d : ℤ) → c < g .columns → getD (rowsOf s g n ++ row s g n) (g .columns * n + c) d ≡ answer s (cellLocation g c n)
+  unfolding row
+  cell-last c n d h =
+      let at : g .columns * n + c ≡ length (rowsOf s g n) + c = omega (arith, length-rows n) in
+      ap (λ (i : ℕ). getD (rowsOf s g n ++ row s g n) i d) at
+      ∙ getD-append-add (rowsOf s g n) (row s g n) c d
+      ∙ getD-tabulate (λ i. answer s (cellLocation g i n)) (g .columns) c d h
+
+  cell-among : (c r n : ℕ) (d : ℤ) → c < g .columns → r < n → getD (rowsOf s g n) (g .columns * r + c) d ≡ answer s (cellLocation g c r)
+  unfolding rowsOf
+  cell-among c r zero d h k = absurd (omega arith)
+  cell-among c r (suc n) d h k =
+      ⊎-elim
+      (λ (e : r ≡ n). subst (λ (m : ℕ). getD (rowsOf s g n ++ row s g n) (g .columns * m + c) d ≡ answer s (cellLocation g c m)) (sym e) (cell-last c n d h))
+      (λ (e : r < n).
+      let room : g .columns * (r + 1) ≤ g .columns * n = mul-le-mul-left (g .columns) (omega arith) in
+      List·getD-append (rowsOf s g n) (row s g n) d (g .columns * r + c) (omega (arith, room, length-rows n)) ∙ cell-among c r n d h e)
+      (eq-or-lt-of-le {n = r} {m = n} (omega arith))
+
+  pub cell-at : (c r : ℕ) (d : ℤ) → c < g .columns → r < g .rows → getD (cells s g) (g .columns * r + c) d ≡ answer s (cellLocation g c r)
+  unfolding cells
+  cell-at c r d h k = cell-among c r (g .rows) d h k
 
 pub length-cells-bytes : (l : List ℤ) → length (cellsBytes l) ≡ 2 * length l
 unfolding cellsBytes

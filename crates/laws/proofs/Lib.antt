@@ -23,6 +23,7 @@ pub mod AreaBound
 pub mod BoxLaws
 pub mod OrderLaws
 pub mod SortLaws
+pub mod BesideLaws
 pub mod PartLaws
 pub mod ChoiceLaws
 pub mod NearestLaws
@@ -35,6 +36,7 @@ pub mod TrailerLaws
 pub mod RecordLaws
 pub mod RoundTrip
 pub mod CallLaws
+pub mod FarOffLaws
 pub mod HistoryInvariant
 pub mod DropLaws
 pub mod ExtentLaws

@@ -1,12 +1,13 @@
 -- Closed cases that hold the definitions to documents 01 and 02: the starred rows of the bench table, `closed-rows`; rows of our own that these cannot replace,
--- `further`, `polygons`, `calls`, `kept`, `lent`, `files`, `refusals`, `grids`, `readings`, `decimals`, `decimals-read`, `cell-texts` and `texts`; and the whole case, as a grid file and as an Esri ASCII grid.
+-- `further`, `far-off`, `polygons`, `calls`, `kept`, `lent`, `files`, `refusals`, `grids`, `readings`, `decimals`, `decimals-read`, `cell-texts` and `texts`; and the whole case, as a grid file and as an Esri ASCII grid.
 use Prim.Native.Nat.{ℕ, _+_}
 use mathlib.Core.Path.{_≡_, refl}
-use mathlib.Core.Bool.{true, false}
+use mathlib.Core.Bool.{true, false, true≢false}
+use mathlib.Core.Logic.{inl, inr, ⊎-elim}
 use mathlib.Core.Option.{Option, none, some}
 use mathlib.Core.List.{List, [], _∷_, _++_, map, reverse}
 use lib.Dec.{lit<}
-use lib.IntN.{ℤ, pos, negsuc}
+use lib.IntN.{ℤ, pos, negsuc, pos-ne-negsuc}
 use lib.ListN.{replicate, set}
 use Rattle.model.specs.Lists.{tabulate}
 use Rattle.model.specs.Point.{Location, Point, Contents, State, point, location, contentsOf}
@@ -24,6 +25,7 @@ use Rattle.model.specs.Refusals.{lookupRefusal, neighboursRefusal}
 use Rattle.model.specs.Lent.{neighboursInto}
 use Rattle.model.specs.SurveyFile.{fault, wrongSize, fileRefusal, fileOf}
 use Rattle.model.specs.Calls.{Call, Add, Change, Drop, Clear, Load, Ask, refusal, fresh, present, edited}
+use Rattle.model.specs.FarOff.{Alike, Spared}
 use Rattle.model.specs.Grid.{Grid, gridRefusal, cells}
 use Rattle.model.specs.GridReading.{gridOfFile, cellsOfFile, someLength, gridFileCheck, cellsReadRefusal, cellsReadInto}
 use Rattle.model.specs.Decimal.{digitsOf, places, decimal, signedDecimal, decimalRead}
@@ -124,6 +126,33 @@ pub further : Is (mean (two 1 1 (pos 0) 2 2 (pos 100)) (location 0 0)) (pos 9829
     × (answer wide middle ≡ pos 4608)
 unfolding mean answer choice neighbours extentOf distance tabulate
 further = ((refl, lit< tt), (refl, lit< tt), refl, refl, (refl, lit< tt), refl, refl, refl, refl, refl, refl, refl, refl, (refl, lit< tt), refl)
+
+-- two points beside (200,200), three at one distance from it, the last of which is not chosen there; its value is z
+abbrev aside : ℤ → State
+aside z = surveyOf (point 199 200 (pos 0) ∷ point 200 155 (pos 5) ∷ point 200 245 (pos 5) ∷ point 215 200 (pos 4) ∷ point 227 236 z ∷ [])
+
+-- §5: a value far off is altered, from 5 to -126. The mean lies halfway between two 256ths, so that a least value over all points would round the other way. Not spared is the location of the point itself
+pub far-off : Alike (aside (pos 5) .contents) (aside (negsuc 125) .contents)
+    × Spared (aside (pos 5)) (location 200 200) (aside (negsuc 125) .contents)
+    × (map (λ z. choice (aside z) (location 200 200) .radius) (pos 5 ∷ negsuc 125 ∷ []) ≡ 11520 ∷ 11520 ∷ [])
+    × (map (λ z. kinds (aside z) (location 200 200)) (pos 5 ∷ negsuc 125 ∷ []) ≡ (1 ∷ 1 ∷ 3 ∷ 3 ∷ []) ∷ (1 ∷ 1 ∷ 3 ∷ 3 ∷ []) ∷ [])
+    × (neighbours (aside (pos 5)) (location 200 200) ≡ neighbours (aside (negsuc 125)) (location 200 200))
+    × Is (mean (aside (negsuc 125)) (location 200 200)) (pos 23) 512
+    × (map (λ z. answer (aside z) (location 200 200)) (pos 5 ∷ negsuc 125 ∷ []) ≡ pos 12 ∷ pos 12 ∷ [])
+    × (Spared (aside (pos 5)) (location 227 236) (aside (negsuc 125) .contents) → ⊥)
+    × (map (λ z. answer (aside z) (location 227 236)) (pos 5 ∷ negsuc 125 ∷ []) ≡ pos 1280 ∷ negsuc 32255 ∷ [])
+unfolding mean answer choice neighbours extentOf
+far-off = (
+  record { places = refl },
+  (inl refl, (inl refl, (inl refl, (inl refl, (inr refl, tt))))),
+  refl,
+  refl,
+  refl,
+  (refl, lit< tt),
+  refl,
+  (λ h. ⊎-elim (pos-ne-negsuc 5 125) true≢false (h .1 .1 .1 .1 .0)),
+  refl,
+)
 
 abbrev corner : Location → List ℕ
 corner a = a .x ∷ a .y ∷ []

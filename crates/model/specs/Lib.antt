@@ -19,6 +19,7 @@ pub mod Bytes
 pub mod SurveyFile
 pub mod Calls
 pub mod Invariant
+pub mod FarOff
 pub mod Grid
 pub mod GridFile
 pub mod GridReading

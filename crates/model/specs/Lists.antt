@@ -51,6 +51,13 @@ module _ {A : Type 0} where
   Pairs R [] = Unit {0}
   Pairs R (a ∷ l) = All (R a) l × Pairs R l
 
+  -- a fact of the two elements at each index of two lists, which are of one length
+  abbrev pub Beside : (A → A → Type 0) → List A → List A → Type 0
+  Beside R [] [] = Unit {0}
+  Beside R [] (b ∷ m) = ⊥
+  Beside R (a ∷ l) [] = ⊥
+  Beside R (a ∷ l) (b ∷ m) = R a b × Beside R l m
+
 -- a list of bytes
 abbrev pub Bytes : List ℕ → Type 0
 Bytes l = All (λ b. b < 256) l

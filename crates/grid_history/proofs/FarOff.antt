@@ -1,0 +1,118 @@
+-- §5 of the grids of every two programs: whatever the calls of each, where their surveys stand at the same locations, a cell is the same number wherever the values differ
+-- only at points not chosen at its location. These are the cells that need no second look.
+use mathlib.Core.Path.{_≡_, refl, sym, ap, _∙_}
+use Prim.Native.Nat.{ℕ, zero, suc, _+_, _-_, _*_, _<_}
+use native.Mathlib.Omega.{arith}
+use mathlib.Core.Bool.{Bool, true, false, cond}
+use mathlib.Core.List.{List, [], _∷_, map}
+use mathlib.Core.Option.{none, some}
+use lib.Dec.{eqb}
+use lib.IntN.{ℤ, pos}
+use lib.ListN.{length, take, drop, getD, List·getD-append}
+use borrow.Author.Tests.{eqb-true, eq-eqb}
+use contract.Lifetimes.{Lfts}
+use denote.Ref.{RefT, now}
+use Rattle.model.specs.Point.{Contents, State}
+use Rattle.model.specs.Extent.{settled}
+use Rattle.model.specs.Answer.{answer}
+use Rattle.model.specs.Calls.{Call, present}
+use Rattle.model.specs.FarOff.{Alike, Spared}
+use Rattle.model.specs.Grid.{cellCount, cellLocation, gridRefusal, cells, cellsInto, Grid as Model·Grid}
+use Rattle.model.specs.GridReading.{cellsOfFile, TwoBytes}
+use Rattle.model.specs.Esri.{rowsDown, exactCell, exactRow, cellsRead}
+use Rattle.laws.proofs.GridLaws.{cell-at, length-cells, row-within}
+use Rattle.laws.proofs.EsriLaws.{cell-read}
+use Rattle.laws.proofs.FarOffLaws.{alike-length, radius-alike, answers-alike}
+use Rattle.survey_file.specs.declared.Written.the-variants.{Length}
+use Rattle.survey.specs.declared.Survey.{Survey}
+use Rattle.history.specs.Runs.{Runs}
+use Rattle.history.proofs.Runs.{leaves}
+use Rattle.grid_rules.specs.declared.Grid.{Grid}
+use Rattle.grid_rules.specs.declared.Filled.{Filled}
+use Rattle.grid_rules.specs.declared.Filled.the-variants.{Cells, Refused}
+use Rattle.grid_rules.specs.GridOf.{gridOf}
+use Rattle.grid.specs.FilledAs.{filledAs}
+use Rattle.grid.proofs.cells.Reads as cells-of
+use Rattle.grid.proofs.write.Reads as write-of
+use Rattle.esri.proofs.write.Reads as text-of
+use Rattle.grid_history.proofs.Files.{file-claimed}
+use Rattle.grid_history.proofs.Texts.{text-claimed}
+
+-- a cell of two grids over contents at the same locations, where it stands among all
+module _ (q r : Contents) (alike : Alike q r) (g : Model·Grid) (c k : ℕ) (column : c < g .columns) (row : k < g .rows) (spared : Spared (settled q) (cellLocation g c k) r) where
+  cell-same : (d : ℤ) → getD (cells (settled q) g) (g .columns * k + c) d ≡ getD (cells (settled r) g) (g .columns * k + c) d
+  cell-same d =
+      cell-at (settled q) g c k d column row
+      ∙ answers-alike (settled q) (settled r) alike (radius-alike q r alike) (cellLocation g c k) spared .computed
+      ∙ sym (cell-at (settled r) g c k d column row)
+
+told-same : (q r : Contents) → Alike q r → (g : Model·Grid) (n : ℕ) → filledAs (settled q) g n ≡ filledAs (settled r) g n
+unfolding filledAs gridRefusal
+told-same q r alike g n = rw (alike-length q r alike)
+
+-- what lent cells hold of a grid that was filled
+module _ (s : State) (g : Model·Grid) (d : List ℤ) where
+  filled-accepted : (n : ℕ) → filledAs s g (length d) ≡ Cells n → gridRefusal g s (length d) ≡ 0
+  unfolding filledAs
+  filled-accepted n h = by-test (eqb (gridRefusal g s (length d)) 0) refl h
+    where
+      by-test : (t : Bool) → eqb (gridRefusal g s (length d)) 0 ≡ t → cond t (Cells (cellCount g)) (Refused (gridRefusal g s (length d))) ≡ Cells n → gridRefusal g s (length d) ≡ 0
+      by-test true e h = eqb-true (gridRefusal g s (length d)) 0 e
+      by-test false e h = let z : _≡_ {A = ℕ} 0 1 = cc h in absurd (omega arith)
+
+  filled-at : (n : ℕ) → filledAs s g (length d) ≡ Cells n → (i : ℕ) (z : ℤ) → i < cellCount g → getD (cellsInto s g d) i z ≡ getD (cells s g) i z
+  unfolding cellsInto
+  filled-at n h i z k =
+      rw (eq-eqb (gridRefusal g s (length d)) 0 (filled-accepted n h)) (List·getD-append (cells s g) (drop (length (cells s g)) d) z i (omega (arith, length-cells s g)))
+
+module _ {cs ds : List Call} {s t : Survey} (one : Runs cs s) (other : Runs ds t) (alike : Alike (present cs) (present ds)) (g : Grid) where
+  -- of `grid::cells`, lent cells of one number: what is told
+  pub fillings-same : (κs κs' : Lfts 1) (out left out' left' : RefT (List ℤ)) (a b : Filled)
+      → cells-of.Post κs (s, (g, (out, tt))) a (s, (g, (left, tt))) → cells-of.Post κs' (t, (g, (out', tt))) b (t, (g, (left', tt)))
+      → length (now out) ≡ length (now out') → a ≡ b
+  fillings-same κs κs' out left out' left' a b h k e =
+      rw (leaves one) at (h .0) ∙ told-same (present cs) (present ds) alike (gridOf g) (length (now out))
+      ∙ ap (filledAs (settled (present ds)) (gridOf g)) e ∙ sym (rw (leaves other) at (k .0))
+
+  module _ (c r : ℕ) (column : c < gridOf g .columns) (row : r < gridOf g .rows) (spared : Spared (settled (present cs)) (cellLocation (gridOf g) c r) (present ds)) where
+    abbrev place : ℕ
+    place = gridOf g .columns * r + c
+
+    inside : place < cellCount (gridOf g)
+    inside = omega (arith, row-within (gridOf g) r row)
+
+    -- of `grid::cells`: the cell in what was lent
+    pub cells-same : (κs κs' : Lfts 1) (out left out' left' : RefT (List ℤ)) (n m : ℕ)
+        → cells-of.Post κs (s, (g, (out, tt))) (Cells n) (s, (g, (left, tt))) → cells-of.Post κs' (t, (g, (out', tt))) (Cells m) (t, (g, (left', tt)))
+        → (z : ℤ) → getD (now left) place z ≡ getD (now left') place z
+    cells-same κs κs' out left out' left' n m h k z =
+        let u = rw (leaves one) at h in
+        let v = rw (leaves other) at k in
+        rw (u .1 .0, v .1 .0)
+        (filled-at (settled (present cs)) (gridOf g) (now out) n (sym (u .0)) place z inside
+        ∙ cell-same (present cs) (present ds) alike (gridOf g) c r column row spared z
+        ∙ sym (filled-at (settled (present ds)) (gridOf g) (now out') m (sym (v .0)) place z inside))
+
+    -- of `grid::write`: the cell as it is read from the file
+    pub files-same : (κs κs' : Lfts 1) (out left out' left' : RefT (List ℕ)) (n m : ℕ) → TwoBytes (gridOf g)
+        → write-of.Post κs (s, (g, (out, tt))) (Length n) (s, (g, (left, tt))) → write-of.Post κs' (t, (g, (out', tt))) (Length m) (t, (g, (left', tt)))
+        → (z : ℤ) → getD (cellsOfFile (take n (now left))) place z ≡ getD (cellsOfFile (take m (now left'))) place z
+    files-same κs κs' out left out' left' n m small h k z =
+        let u = file-claimed one κs g out left (Length n) h n refl small in
+        let v = file-claimed other κs' g out' left' (Length m) k m refl small in
+        rw (u .cells, v .cells) (cell-same (present cs) (present ds) alike (gridOf g) c r column row spared z)
+
+    -- of `esri::write`: the cell as it is read from the text, whose rows go down
+    pub texts-same : (κs κs' : Lfts 1) (out left out' left' : RefT (List ℕ)) (n m : ℕ)
+        → text-of.Post κs (s, (g, (out, tt))) (Length n) (s, (g, (left, tt))) → text-of.Post κs' (t, (g, (out', tt))) (Length m) (t, (g, (left', tt)))
+        → let line : ℕ = gridOf g .rows - 1 - r in getD (getD (cellsRead (take n (now left))) line []) c none ≡ getD (getD (cellsRead (take m (now left'))) line []) c none
+    texts-same κs κs' out left out' left' n m h k =
+        let u = text-claimed one κs g out left (Length n) h .read n refl in
+        let v = text-claimed other κs' g out' left' (Length m) k .read m refl in
+        rw (u, v)
+        (read-at (settled (present cs)) ∙ ap (λ (a : ℤ). some (exactCell a)) (cell-same (present cs) (present ds) alike (gridOf g) c r column row spared (pos 0))
+        ∙ sym (read-at (settled (present ds))))
+      where
+        read-at : (u : State) → getD (getD (map exactRow (rowsDown (gridOf g .columns) (cells u (gridOf g)) (gridOf g .rows))) (gridOf g .rows - 1 - r) []) c none
+            ≡ some (exactCell (getD (cells u (gridOf g)) place (pos 0)))
+        read-at u = cell-read (gridOf g .columns) (cells u (gridOf g)) (gridOf g .rows) c r (pos 0) column row (length-cells u (gridOf g))
