@@ -1,10 +1,10 @@
 -- §5 of the grids of every two programs: whatever the calls of each, where their surveys stand at the same locations, a cell is the same number wherever the values differ
 -- only at points not chosen at its location. These are the cells that need no second look.
 use mathlib.Core.Path.{_≡_, refl, sym, ap, _∙_}
-use Prim.Native.Nat.{ℕ, zero, suc, _+_, _-_, _*_, _<_}
+use Prim.Native.Nat.{ℕ, _+_, _-_, _*_, _<_}
 use native.Mathlib.Omega.{arith}
 use mathlib.Core.Bool.{Bool, true, false, cond}
-use mathlib.Core.List.{List, [], _∷_, map}
+use mathlib.Core.List.{List, [], map}
 use mathlib.Core.Option.{none, some}
 use lib.Dec.{eqb}
 use lib.IntN.{ℤ, pos}
@@ -14,19 +14,21 @@ use contract.Lifetimes.{Lfts}
 use denote.Ref.{RefT, now}
 use Rattle.model.specs.Point.{Contents, State}
 use Rattle.model.specs.Extent.{settled}
-use Rattle.model.specs.Answer.{answer}
-use Rattle.model.specs.Calls.{Call, present}
+use Rattle.model.specs.Choice.{choice}
+use Rattle.model.specs.Calls.{Call, Change, taken, present}
 use Rattle.model.specs.FarOff.{Alike, Spared}
 use Rattle.model.specs.Grid.{cellCount, cellLocation, gridRefusal, cells, cellsInto, Grid as Model·Grid}
 use Rattle.model.specs.GridReading.{cellsOfFile, TwoBytes}
 use Rattle.model.specs.Esri.{rowsDown, exactCell, exactRow, cellsRead}
 use Rattle.laws.proofs.GridLaws.{cell-at, length-cells, row-within}
 use Rattle.laws.proofs.EsriLaws.{cell-read}
-use Rattle.laws.proofs.FarOffLaws.{alike-length, radius-alike, answers-alike}
+use Rattle.laws.proofs.AlikeLaws.{alike-length, radius-alike}
+use Rattle.laws.proofs.FarOffLaws.{answers-alike}
 use Rattle.survey_file.specs.declared.Written.the-variants.{Length}
 use Rattle.survey.specs.declared.Survey.{Survey}
-use Rattle.history.specs.Runs.{Runs}
+use Rattle.history.specs.Runs.{Makes, Runs, more}
 use Rattle.history.proofs.Runs.{leaves}
+use Rattle.history.proofs.FarOff.{mended-alike, mended-spares}
 use Rattle.grid_rules.specs.declared.Grid.{Grid}
 use Rattle.grid_rules.specs.declared.Filled.{Filled}
 use Rattle.grid_rules.specs.declared.Filled.the-variants.{Cells, Refused}
@@ -116,3 +118,12 @@ module _ {cs ds : List Call} {s t : Survey} (one : Runs cs s) (other : Runs ds t
         read-at : (u : State) → getD (getD (map exactRow (rowsDown (gridOf g .columns) (cells u (gridOf g)) (gridOf g .rows))) (gridOf g .rows - 1 - r) []) c none
             ≡ some (exactCell (getD (cells u (gridOf g)) place (pos 0)))
         read-at u = cell-read (gridOf g .columns) (cells u (gridOf g)) (gridOf g .rows) c r (pos 0) column row (length-cells u (gridOf g))
+
+-- the value at (u, v) is mended, or the change refused: a cell at whose location that point is not chosen is the number that it was
+pub cells-mended : {cs : List Call} {s t : Survey} (u v : ℕ) (z : ℤ) → Runs cs s → Makes (Change u v z) s t
+    → (g : Grid) (c r : ℕ) → c < gridOf g .columns → r < gridOf g .rows → taken u v (choice (settled (present cs)) (cellLocation (gridOf g) c r) .points) ≡ false
+    → (κs κs' : Lfts 1) (out left out' left' : RefT (List ℤ)) (n m : ℕ)
+    → cells-of.Post κs (s, (g, (out, tt))) (Cells n) (s, (g, (left, tt))) → cells-of.Post κs' (t, (g, (out', tt))) (Cells m) (t, (g, (left', tt)))
+    → (d : ℤ) → getD (now left) (gridOf g .columns * r + c) d ≡ getD (now left') (gridOf g .columns * r + c) d
+cells-mended {cs} {s} {t} u v z h m g c r column row unchosen =
+    cells-same h (more cs (Change u v z) s t h m) (mended-alike cs u v z) g c r column row (mended-spares cs u v z (cellLocation (gridOf g) c r) unchosen)

@@ -3,19 +3,19 @@
 use mathlib.Core.Path.{_≡_, sym, ap, _∙_}
 use Prim.Native.Nat.{ℕ}
 use mathlib.Core.Bool.{false}
-use mathlib.Core.List.{List, _++_}
+use mathlib.Core.List.{List, [], _∷_, _++_}
 use lib.IntN.{ℤ}
 use lib.ListN.{length, take, drop}
-use Rattle.model.specs.Point.{Contents, location}
+use Rattle.model.specs.Point.{Location, Contents, location}
 use Rattle.model.specs.Extent.{settled}
 use Rattle.model.specs.Choice.{choice}
-use Rattle.model.specs.Answer.{Neighbour}
 use Rattle.model.specs.Refusals.{lookupRefusal, neighboursRefusal}
 use Rattle.model.specs.Lent.{neighboursInto}
 use Rattle.model.specs.Calls.{Call, Change, taken, present}
 use Rattle.model.specs.FarOff.{Alike, Spared, AnswersAlike}
 use Rattle.laws.proofs.CallLaws.{present-more}
-use Rattle.laws.proofs.FarOffLaws.{alike-length, radius-alike, answers-alike, change-alike, change-spares}
+use Rattle.laws.proofs.AlikeLaws.{alike-length, radius-alike}
+use Rattle.laws.proofs.FarOffLaws.{answers-alike, change-alike, change-spares}
 use Rattle.neighbour_records.specs.declared.Record.{Record}
 use Rattle.neighbour_records.specs.Records.{recordOf}
 use Rattle.survey.specs.declared.Survey.{Survey}
@@ -80,10 +80,17 @@ module _ {cs ds : List Call} {s t : Survey} (one : Runs cs s) (other : Runs ds t
         u .2 ∙ ap (λ (k : List Record). k ++ drop n l) (into-same (present cs) (present ds) alike x y spared (take n l)) ∙ sym (v .2),
       )
 
--- the value of one point is mended, or the change refused: a lookup that does not choose the point gives what it gave
+-- a change of the value at (u, v), refused or not, as the last call of a list
+module _ (cs : List Call) (u v : ℕ) (z : ℤ) where
+  pub mended-alike : Alike (present cs) (present (cs ++ Change u v z ∷ []))
+  mended-alike = rw (present-more cs (Change u v z)) (change-alike u v z (present cs))
+
+  pub mended-spares : (p : Location) → taken u v (choice (settled (present cs)) p .points) ≡ false → Spared (settled (present cs)) p (present (cs ++ Change u v z ∷ []))
+  mended-spares p unchosen = rw (present-more cs (Change u v z)) (change-spares u v z (present cs) p unchosen)
+
+-- a lookup that does not choose the point gives what it gave before
 pub mended : {cs : List Call} {s t : Survey} (u v : ℕ) (z : ℤ) → Runs cs s → Makes (Change u v z) s t
     → (x y : ℕ) → taken u v (choice (settled (present cs)) (location x y) .points) ≡ false
     → (a b : Answer) → lookup-of.Post tt (s, (x, (y, tt))) a (s, (x, (y, tt))) → lookup-of.Post tt (t, (x, (y, tt))) b (t, (x, (y, tt))) → a ≡ b
 mended {cs} {s} {t} u v z h m x y unchosen =
-    lookups-same h (more cs (Change u v z) s t h m) (rw (present-more cs (Change u v z)) (change-alike u v z (present cs))) x y
-    (rw (present-more cs (Change u v z)) (change-spares u v z (present cs) (location x y) unchosen))
+    lookups-same h (more cs (Change u v z) s t h m) (mended-alike cs u v z) x y (mended-spares cs u v z (location x y) unchosen)

@@ -36,6 +36,7 @@ pub mod TrailerLaws
 pub mod RecordLaws
 pub mod RoundTrip
 pub mod CallLaws
+pub mod AlikeLaws
 pub mod FarOffLaws
 pub mod HistoryInvariant
 pub mod DropLaws
