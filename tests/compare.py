@@ -14,12 +14,15 @@ from typing import NamedTuple
 import generator
 import journals
 import operations
+import pair_checks
 import protocol
 from checks import Difference, check_esri_text, check_grid_file, check_replies
 from generator import Test
 from grid_inputs import GridInput
 from journals import Journal
-from programs import SECONDS, run_program
+from pair_journals import Pair
+from programs import SECONDS, Run, run_program
+from protocol import Call
 
 SAMPLE = Path(__file__).parent.parent / "sample" / "worn_drive.rls"
 SEED = 1968
@@ -34,6 +37,11 @@ MINIMA = {
     "grid cells": 10_000,
     "esri texts by program": LEAST,
     "esri cells": 10_000,
+    "pairs": LEAST,
+    "pair answers": 1_500,
+    "pair answers that are free": 500,
+    "pair cells": 2_500,
+    "pair cells that are free": 400,
 }
 MINIMA |= {each.counted: LEAST for each in operations.TABLE if each.counted not in ("", *MINIMA)}
 
@@ -47,18 +55,21 @@ class Programs(NamedTuple):
 
 
 class Found(Exception):
-    """A difference with the input that shows it, in a form to read and in the file at `path`."""
+    """A difference with the input that shows it, in a form to read and in the files at `paths`."""
 
-    def __init__(self, kind: str, difference: Difference, shown: list[str], path: str) -> None:
+    def __init__(self, kind: str, difference: Difference, shown: list[str], *paths: str) -> None:
         super().__init__(kind, difference)
         self.kind = kind
         self.difference = difference
         self.shown = shown
-        self.path = path
+        self.paths = paths
 
 
-def check_journal(journal: Journal, command: Command, seconds: int, counts: Counter[str]) -> None:
-    check_replies(journal, run_program(command, journals.encode(journal), seconds), counts)
+def check_journal(journal: Journal, command: Command, seconds: int, counts: Counter[str]) -> Run:
+    """Gives what the program wrote."""
+    run = run_program(command, journals.encode(journal), seconds)
+    check_replies(journal, run, counts)
+    return run
 
 
 def shorten(
@@ -85,11 +96,15 @@ def keep(data: bytes, suffix: str) -> str:
     return path
 
 
+def shown_calls(calls: Iterable[Call]) -> list[str]:
+    return [protocol.describe(call) for call in calls]
+
+
 def found_in_journal(
     journal: Journal, difference: Difference, command: Command, seconds: int
 ) -> Found:
     journal, difference = shorten(journal, difference, command, seconds)
-    shown = [protocol.describe(call) for call in journal.calls]
+    shown = shown_calls(journal.calls)
     if journal.bad:
         shown.append("bad end " + protocol.hexadecimal(journal.bad))
     return Found(journal.kind, difference, shown, keep(journals.encode(journal), ".journal"))
@@ -100,11 +115,50 @@ def found_in_input(test: GridInput, difference: Difference, program: str) -> Fou
     return Found(test.kind, difference, shown, keep(test.data, ".survey"))
 
 
-def run_journal(test: Journal, command: Command, seconds: int, counts: Counter[str]) -> None:
+def check_pair(pair: Pair, command: Command, seconds: int, counts: Counter[str]) -> None:
+    one, other = (check_journal(each, command, seconds, counts) for each in pair.journals())
+    pair_checks.check_pair(pair, (one, other), counts)
+
+
+def shorten_pair(
+    pair: Pair, difference: Difference, command: Command, seconds: int
+) -> tuple[Pair, Difference]:
+    """The one question; without calls that alter nothing, if the two journals differ then too."""
+    assert difference.at is not None
+    upto = pair._replace(asked=pair.asked[: difference.at + 1])
+    one, other = ([call for call in calls if call.operation.alters] for calls in pair[1:3])
+    asked = upto.asked[-1:]
+    for short in (Pair(pair.kind, one, other, asked), pair._replace(asked=asked)):
+        try:
+            check_pair(short, command, seconds, Counter())
+        except Difference as again:
+            return short, again
+    return upto, difference
+
+
+def found_in_pair(pair: Pair, difference: Difference, command: Command, seconds: int) -> Found:
+    """Both journals are shown and kept."""
+    pair, difference = shorten_pair(pair, difference, command, seconds)
+    shown = ["the first journal:", *shown_calls(pair.one), "the second journal:"]
+    shown += [*shown_calls(pair.other), "both then:", *shown_calls(pair.asked)]
+    paths = [keep(journals.encode(each), ".journal") for each in pair.journals()]
+    return Found(pair.kind, difference, shown, *paths)
+
+
+def run_journal(test: Journal, command: Command, seconds: int, counts: Counter[str]) -> Run:
     try:
-        check_journal(test, command, seconds, counts)
+        return check_journal(test, command, seconds, counts)
     except Difference as difference:
         raise found_in_journal(test, difference, command, seconds) from None
+
+
+def run_pair(test: Pair, command: Command, seconds: int, counts: Counter[str]) -> None:
+    """Each journal by itself, and the one against the other."""
+    one, other = (run_journal(each, command, seconds, counts) for each in test.journals())
+    try:
+        pair_checks.check_pair(test, (one, other), counts)
+    except Difference as difference:
+        raise found_in_pair(test, difference, command, seconds) from None
 
 
 def run_input(test: GridInput, programs: Programs, seconds: int, counts: Counter[str]) -> None:
@@ -125,6 +179,8 @@ def run_tests(tests: Iterable[Test], programs: Programs, seconds: int = SECONDS)
     for test in tests:
         if isinstance(test, Journal):
             run_journal(test, programs.replay, seconds, counts)
+        elif isinstance(test, Pair):
+            run_pair(test, programs.replay, seconds, counts)
         else:
             run_input(test, programs, seconds, counts)
     return counts
@@ -133,7 +189,7 @@ def run_tests(tests: Iterable[Test], programs: Programs, seconds: int = SECONDS)
 def report(found: Found) -> str:
     lines = [f"difference in a test of the kind: {found.kind}", *found.shown]
     lines += [f"expected: {found.difference.expected}", f"came:     {found.difference.came}"]
-    return "\n".join([*lines, f"input kept in {found.path}"])
+    return "\n".join([*lines, *(f"input kept in {path}" for path in found.paths)])
 
 
 def too_few(counts: Counter[str]) -> list[str]:

@@ -1,4 +1,4 @@
-"""Makes the tests of a seed: lists of calls for shepard_replay and inputs for the programs."""
+"""Makes the tests of a seed: lists of calls, and pairs of them, and inputs for the programs."""
 
 from __future__ import annotations
 
@@ -12,14 +12,17 @@ import esri_journals
 import grid_inputs
 import journals
 import mixed_calls
+import pair_journals
 import polygon_journals
 from grid_inputs import GridInput
 from journals import Journal
+from pair_journals import Pair, Parts
 from protocol import Call
 
-# What one test is made of: a journal's calls, or an input of shepard_grid and shepard_esri.
-Maker = Callable[[Random, int], list[Call] | bytes]
-Test = Journal | GridInput
+# What one test is made of: a journal's calls, those of a pair, or an input of shepard_grid and
+# shepard_esri.
+Maker = Callable[[Random, int], list[Call] | Parts | bytes]
+Test = Journal | Pair | GridInput
 
 JOURNALS = (
     ("examples", journals.example_journal, 2),
@@ -45,6 +48,12 @@ GRID_INPUTS = (
     ("esri inputs", grid_inputs.like_input, 220),
     ("unlike steps", grid_inputs.unlike_input, 36),
 )
+PAIRS = (
+    ("pairs of lookups", pair_journals.lookup_pair, 60),
+    ("pairs of midpoints", pair_journals.midpoint_pair, 60),
+    ("pairs of free answers", pair_journals.free_pair, 60),
+    ("pairs of grids", pair_journals.grid_pair, 48),
+)
 
 
 def share_of(count: int, divisor: int) -> int:
@@ -56,6 +65,8 @@ def make_test(rng: Random, kind: str, maker: Maker, index: int) -> Test:
     made = maker(rng, index)
     if isinstance(made, bytes):
         return GridInput(kind, made, maker is grid_inputs.damaged_input)
+    if isinstance(made, tuple):
+        return Pair(kind, *made)
     bad = bad_journals.bad_end(rng) if maker is bad_journals.bad_journal else b""
     return Journal(kind, made, bad)
 
@@ -63,7 +74,7 @@ def make_test(rng: Random, kind: str, maker: Maker, index: int) -> Test:
 def make(rng: Random, divisor: int = 1) -> list[Test]:
     """All tests of a run, each kind spread evenly over it."""
     spread: list[tuple[Fraction, Test]] = []
-    for kind, maker, whole in JOURNALS + GRID_INPUTS:
+    for kind, maker, whole in JOURNALS + GRID_INPUTS + PAIRS:
         count = share_of(whole, divisor)
         for index in range(count):
             spread.append((Fraction(2 * index + 1, 2 * count), make_test(rng, kind, maker, index)))

@@ -24,6 +24,9 @@ FIVE = ((95, 100, 0), (100, 95, 0), (100, 105, 0), (103, 104, 98), (105, 100, 0)
 SQUARE = ((0, 0, 0), (0, 40, 0), (40, 0, 0), (40, 40, 0))
 # At the same distance from the square's centre.
 IN_SQUARE = ((10, 20, 1), (20, 10, 2), (20, 30, 3), (28, 26, 50), (30, 20, 4))
+# The four that are chosen at (200, 200), and one that is as far off as the last two.
+AT_MIDPOINT = ((199, 200, 0), (200, 155, 5), (200, 245, 5), (215, 200, 4))
+FAR_OFF = (227, 236)
 # The last add lacks a byte.
 BAD_END = protocol.encode(Call("a", (1, 1, 1)))[:-1]
 
@@ -146,9 +149,17 @@ def polygon() -> list[Call]:
     return with_ends(calls)
 
 
+def far_off() -> list[Call]:
+    """A mean at a midpoint, and a value that has no say there."""
+    asked = [Call("n", (200, 200, 10)), Call("g", (200, 200, 1, 1, 1, 1, 1)), Call("q", FAR_OFF)]
+    calls = [Call("k"), *calls_of("a", *AT_MIDPOINT, (*FAR_OFF, 5)), *asked]
+    return [*calls, Call("c", (*FAR_OFF, -126)), *asked]
+
+
 def make() -> journals.Journal:
     calls = [Call("e")] + on_none() + on_two() + files() + on_full() + rows() + within_radius()
-    return journals.Journal("stored", calls + grids() + esri_texts() + ends() + polygon(), BAD_END)
+    calls += grids() + esri_texts() + ends() + polygon() + far_off()
+    return journals.Journal("stored", calls, BAD_END)
 
 
 if __name__ == "__main__":

@@ -22,6 +22,7 @@ import generator
 import grid_inputs
 import journals
 import operations
+import pair_checks
 import permitted
 import protocol
 import stand_ins
@@ -32,6 +33,7 @@ from grid_inputs import GridInput
 from journals import Journal
 from metric import Location
 from operations import BYTES
+from pair_journals import Pair
 from permitted import Expected
 from programs import Run
 from random_calls import LONGEST_TEXT
@@ -41,7 +43,7 @@ FAKES = str(pathlib.Path(__file__).with_name("fakes.py"))
 SOUND_PART, FAULTY_PART = 16, 4
 SECONDS = 20
 SHORT_SECONDS = 2
-FEWEST_FAULTS = 136
+FEWEST_FAULTS = 163
 ESRI_KINDS = ("esri texts", "widest esri texts", "free lengths")
 ENDS_KINDS = ("ends", "polygon")
 # What each call can be refused with.
@@ -116,9 +118,9 @@ class Faults(unittest.TestCase):
         seconds = SHORT_SECONDS if fault == "hang" else SECONDS
         with self.assertRaises(compare.Found) as caught:
             compare.run_tests(tests, programs(fault), seconds)
-        path = pathlib.Path(caught.exception.path)
-        self.assertTrue(path.exists())
-        path.unlink()
+        for path in map(pathlib.Path, caught.exception.paths):
+            self.assertTrue(path.exists())
+            path.unlink()
 
 
 class FreeRounding(unittest.TestCase):
@@ -193,10 +195,14 @@ class FreeRounding(unittest.TestCase):
     def assert_rounding_passes(self, nearest: Callable[[Lookup], int]) -> None:
         """Put in place of the nearest answer, in all tests but the widest."""
         for test in [each for each in part_of_run(SOUND_PART) if "widest" not in each.kind]:
-            if isinstance(test, Journal):
+            if isinstance(test, Journal | Pair):
+                listed = [test] if isinstance(test, Journal) else test.journals()
                 with mock.patch.object(exact, "nearest_answer", nearest):
-                    run = Run(stand_ins.replay(journals.encode(test)), "")
-                checks.check_replies(test, run, Counter())
+                    runs = [Run(stand_ins.replay(journals.encode(each)), "") for each in listed]
+                for each, run in zip(listed, runs):
+                    checks.check_replies(each, run, Counter())
+                if isinstance(test, Pair):
+                    pair_checks.check_pair(test, runs, Counter())
             else:
                 with mock.patch.object(exact, "nearest_answer", nearest):
                     runs = Run(stand_ins.grid(test.data), ""), Run(stand_ins.esri(test.data), "")
@@ -221,12 +227,12 @@ class Report(unittest.TestCase):
         with self.assertRaises(compare.Found) as caught:
             compare.run_tests([Journal("report", calls)], programs("answer floored"), SECONDS)
         found = caught.exception
-        path = pathlib.Path(found.path)
+        path = pathlib.Path(found.paths[0])
         kept = b"".join(map(protocol.encode, [calls[0], calls[2], calls[3]]))
         self.assertEqual(path.read_bytes(), kept)
         path.unlink()
         self.assertEqual(found.shown, ["add 3 0 0", "add 6 0 90", "lookup 0 1"])
-        for text in ("add 6 0 90", "expected: found ", "came:     found ", found.path):
+        for text in ("add 6 0 90", "expected: found ", "came:     found ", str(path)):
             self.assertIn(text, compare.report(found))
 
     def test_names_the_program(self) -> None:
@@ -238,7 +244,7 @@ class Report(unittest.TestCase):
         ):
             with self.assertRaises(compare.Found) as caught:
                 compare.run_tests([test], programs(fault), SECONDS)
-            pathlib.Path(caught.exception.path).unlink()
+            pathlib.Path(caught.exception.paths[0]).unlink()
             self.assertEqual(caught.exception.shown, [f"input of {name} {test.data.hex()}"])
             self.assertIn(told, compare.report(caught.exception).split("\n")[2])
 

@@ -77,6 +77,37 @@ def hexadecimal(title: str) -> list[bytes]:
     return [bytes.fromhex(block) for block in blocks if block.strip()]
 
 
+# The page's steps in 64-bit floats.
+
+
+def factor_in_floats(each: exact.Neighbour, radius: int) -> float:
+    if each.kind == exact.INVERSE:
+        return 1.0 / float(each.distance)
+    whole, inside = float(radius), float(radius - each.distance)
+    return 27.0 * (inside * inside) / (4.0 * (whole * (whole * whole)))
+
+
+def in_floats(lookup: exact.Lookup, at: tuple[int, int], least: int) -> int:
+    """The answer where no point is at the location and not all are at the edge."""
+    chosen = lookup.neighbours
+    s = [factor_in_floats(each, lookup.radius) for each in chosen]
+    total = 0.0
+    for each in s:
+        total += each
+    weights = values = 0.0
+    for i, one in enumerate(chosen):
+        term = 0.0
+        for j, other in enumerate(chosen):
+            product = one.distance * other.distance
+            inner = (one.x - at[0]) * (other.x - at[0]) + (one.y - at[1]) * (other.y - at[1])
+            ratio = float(abs(product - 65_536 * inner)) / float(product)
+            term += 0.0 if i == j else s[j] * ratio
+        weight = s[i] * s[i] * (1.0 + term / total)
+        weights += weight
+        values += weight * float(one.z - least)
+    return 256 * least + (int(512.0 * (values / weights)) + 1) // 2
+
+
 class Figures(unittest.TestCase):
     def assert_printed(self, printed: str, exactly: Fraction) -> None:
         """A printed number is the exact one, rounded to the digits that it has."""
@@ -284,32 +315,7 @@ class Worked(Figures):
         self.assertEqual(list(self.figures), list(expected))
         for name, value in expected.items():
             self.assert_printed(self.figures[name], value)
-        self.assertEqual(self.in_floats(), answer)
-
-    def in_floats(self) -> int:
-        """The answer by the page's steps in 64-bit floats."""
-        s = [above / below for above, below in map(self.as_floats, self.chosen)]
-        total = 0.0
-        for each in s:
-            total += each
-        least = min(each.z for each in self.chosen)
-        weights = values = 0.0
-        for i, each in enumerate(self.chosen):
-            term = 0.0
-            for j, factor in enumerate(s):
-                difference = abs(self.product(i, j) - 65_536 * self.inner(i, j))
-                term += 0.0 if i == j else factor * (float(difference) / float(self.product(i, j)))
-            weight = s[i] * s[i] * (1.0 + term / total)
-            weights += weight
-            values += weight * float(each.z - least)
-        return 256 * least + (int(512.0 * (values / weights)) + 1) // 2
-
-    def as_floats(self, each: exact.Neighbour) -> tuple[float, float]:
-        """A factor's numerator and denominator."""
-        if each.kind != exact.TAPERED:
-            return tuple(map(float, self.fractions[each.kind](each.distance)))
-        radius, inside = float(self.lookup.radius), float(self.lookup.radius - each.distance)
-        return 27.0 * (inside * inside), 4.0 * (radius * (radius * radius))
+        self.assertEqual(in_floats(self.lookup, LOCATION, least), answer)
 
     def test_the_text_has_no_other_figures(self) -> None:
         known = {number(figure) for figure in ("0", "4", "5", "10", "129", "355", "791")}
@@ -328,6 +334,45 @@ class Worked(Figures):
                 prose(TITLE),
             )
         self.assertIn(f"the count {len(self.chosen)} and R {self.lookup.radius:,}", prose(TITLE))
+
+
+class NoSay(unittest.TestCase):
+    """The example of a value that has no say."""
+
+    TITLE, LOCATION, FAR_OFF = "Values that have no say", (200, 200), (227, 236)
+
+    def setUp(self) -> None:
+        said = re.findall(r"\((\d+), (\d+)\) with (?:value )?(\d+)", prose(self.TITLE))
+        self.near = [exact.Point(*map(int, each)) for each in said]
+
+    def looked_up(self, z: int) -> exact.Lookup:
+        points = sorted([*self.near, exact.Point(*self.FAR_OFF, z)])
+        return exact.look_up(points, exact.initial_radius(points), self.LOCATION, PLAIN)
+
+    def test_the_point_is_not_chosen(self) -> None:
+        lookup = self.looked_up(5)
+        self.assertEqual(sorted(each[:3] for each in lookup.neighbours), self.near)
+        beyond = sum((one - other) ** 2 for one, other in zip(self.FAR_OFF, self.LOCATION))
+        tied = [each.distance for each in lookup.neighbours[2:]] + [exact.distance(beyond)]
+        self.assertEqual(tied, [45 * 256] * 3)
+        self.assertEqual(lookup.radius, 11_520)
+        self.assertIn("45 steps off", prose(self.TITLE))
+        self.assertIn("R is 11,520", prose(self.TITLE))
+
+    def test_the_answer_is_the_same(self) -> None:
+        for z in range(-128, 128):
+            lookup = self.looked_up(z)
+            self.assertEqual(lookup, self.looked_up(5))
+            self.assertEqual(lookup.mean, Fraction(23, 512))
+            self.assertEqual(list(exact.permitted_answers(lookup)), [11, 12])
+        self.assertIn("The exact mean is 23/512", prose(self.TITLE))
+
+    def test_its_steps(self) -> None:
+        lookup = self.looked_up(-126)
+        least = min(each.z for each in lookup.neighbours)
+        self.assertEqual(in_floats(lookup, self.LOCATION, least), 12)
+        self.assertEqual(in_floats(lookup, self.LOCATION, -126), 11)
+        self.assertIn("would give 11 where that value is -126", prose(self.TITLE))
 
 
 class Bytes(unittest.TestCase):

@@ -77,28 +77,28 @@ module _ {cs ds : List Call} {s t : Survey} (one : Runs cs s) (other : Runs ds t
       ∙ ap (filledAs (settled (present ds)) (gridOf g)) e ∙ sym (rw (leaves other) at (k .0))
 
   module _ (c r : ℕ) (column : c < gridOf g .columns) (row : r < gridOf g .rows) (spared : Spared (settled (present cs)) (cellLocation (gridOf g) c r) (present ds)) where
-    abbrev place : ℕ
-    place = gridOf g .columns * r + c
+    abbrev index : ℕ
+    index = gridOf g .columns * r + c
 
-    inside : place < cellCount (gridOf g)
+    inside : index < cellCount (gridOf g)
     inside = omega (arith, row-within (gridOf g) r row)
 
     -- of `grid::cells`: the cell in what was lent
     pub cells-same : (κs κs' : Lfts 1) (out left out' left' : RefT (List ℤ)) (n m : ℕ)
         → cells-of.Post κs (s, (g, (out, tt))) (Cells n) (s, (g, (left, tt))) → cells-of.Post κs' (t, (g, (out', tt))) (Cells m) (t, (g, (left', tt)))
-        → (z : ℤ) → getD (now left) place z ≡ getD (now left') place z
+        → (z : ℤ) → getD (now left) index z ≡ getD (now left') index z
     cells-same κs κs' out left out' left' n m h k z =
         let u = rw (leaves one) at h in
         let v = rw (leaves other) at k in
         rw (u .1 .0, v .1 .0)
-        (filled-at (settled (present cs)) (gridOf g) (now out) n (sym (u .0)) place z inside
+        (filled-at (settled (present cs)) (gridOf g) (now out) n (sym (u .0)) index z inside
         ∙ cell-same (present cs) (present ds) alike (gridOf g) c r column row spared z
-        ∙ sym (filled-at (settled (present ds)) (gridOf g) (now out') m (sym (v .0)) place z inside))
+        ∙ sym (filled-at (settled (present ds)) (gridOf g) (now out') m (sym (v .0)) index z inside))
 
     -- of `grid::write`: the cell as it is read from the file
     pub files-same : (κs κs' : Lfts 1) (out left out' left' : RefT (List ℕ)) (n m : ℕ) → TwoBytes (gridOf g)
         → write-of.Post κs (s, (g, (out, tt))) (Length n) (s, (g, (left, tt))) → write-of.Post κs' (t, (g, (out', tt))) (Length m) (t, (g, (left', tt)))
-        → (z : ℤ) → getD (cellsOfFile (take n (now left))) place z ≡ getD (cellsOfFile (take m (now left'))) place z
+        → (z : ℤ) → getD (cellsOfFile (take n (now left))) index z ≡ getD (cellsOfFile (take m (now left'))) index z
     files-same κs κs' out left out' left' n m small h k z =
         let u = file-claimed one κs g out left (Length n) h n refl small in
         let v = file-claimed other κs' g out' left' (Length m) k m refl small in
@@ -116,7 +116,7 @@ module _ {cs ds : List Call} {s t : Survey} (one : Runs cs s) (other : Runs ds t
         ∙ sym (read-at (settled (present ds))))
       where
         read-at : (u : State) → getD (getD (map exactRow (rowsDown (gridOf g .columns) (cells u (gridOf g)) (gridOf g .rows))) (gridOf g .rows - 1 - r) []) c none
-            ≡ some (exactCell (getD (cells u (gridOf g)) place (pos 0)))
+            ≡ some (exactCell (getD (cells u (gridOf g)) index (pos 0)))
         read-at u = cell-read (gridOf g .columns) (cells u (gridOf g)) (gridOf g .rows) c r (pos 0) column row (length-cells u (gridOf g))
 
 -- the value at (u, v) is mended, or the change refused: a cell at whose location that point is not chosen is the number that it was

@@ -95,13 +95,13 @@ module _ (s t : State) (p : Location) (kept : s .extent .radius ≡ t .extent .r
       paired-cond R (leb n 4) (record { points = first-beside 4; radius = rw (few-same, distanceAt-same 4) })
       (paired-cond R (leb n 10) (record { points = first-beside n; radius = kept }) (record { points = first-beside 10; radius = distanceAt-same 10 }))
 
-  pub spot-same : coincident s p ≡ coincident t p
+  pub coincident-same : coincident s p ≡ coincident t p
   unfolding coincident
-  spot-same = starts-same p (ordered s p) (ordered t p) ordered-together
+  coincident-same = starts-same p (ordered s p) (ordered t p) ordered-together
 
   pub choice-paired : Paired R (choice s p) (choice t p)
   unfolding choice choiceApart
-  choice-paired = rw (spot-same, within-same) (paired-cond R (coincident t p) (record { points = first-beside 1; radius = refl }) (count-paired (within t p)))
+  choice-paired = rw (coincident-same, within-same) (paired-cond R (coincident t p) (record { points = first-beside 1; radius = refl }) (count-paired (within t p)))
 
 abbrev kindIn : Neighbour → ℕ
 kindIn n = n .kind
@@ -126,7 +126,7 @@ module _ (s t : State) (alike : Alike (s .contents) (t .contents)) (kept : s .ex
   pub together : Beside Together (s .contents .points) (t .contents .points)
   together =
       beside-imp _ Together (λ a b h. record { x = ap (λ (q : Location). q .x) h; y = ap (λ (q : Location). q .y) h }) (s .contents .points) (t .contents .points)
-      (map-beside (λ (a : Point). location (a .x) (a .y)) (s .contents .points) (t .contents .points) (alike .places))
+      (map-beside (λ (a : Point). location (a .x) (a .y)) (s .contents .points) (t .contents .points) (alike .locations))
 
   chosen : Paired Together (choice s p) (choice t p)
   chosen = choice-paired s t p kept Together (λ a b h. h) together
@@ -163,8 +163,8 @@ module _ (s t : State) (alike : Alike (s .contents) (t .contents)) (kept : s .ex
   pub chooses-alike : ChoosesAlike s t p
   chooses-alike =
       record {
-        spot = spot-same s t p kept Together (λ a b h. h) together;
-        places = beside-map Together _ _ (λ a b h. rw (h .x, h .y)) (choice s p .points) (choice t p .points) (chosen .points);
+        coincident = coincident-same s t p kept Together (λ a b h. h) together;
+        locations = beside-map Together _ _ (λ a b h. rw (h .x, h .y)) (choice s p .points) (choice t p .points) (chosen .points);
         radius = chosen .radius;
         distances = beside-map Together (distance s p) (distance t p) (λ a b h. distance-same s t p h) (choice s p .points) (choice t p .points) (chosen .points);
         kinds = kinds-same;
@@ -173,9 +173,9 @@ module _ (s t : State) (alike : Alike (s .contents) (t .contents)) (kept : s .ex
       }
 
 pub alike-length : (q r : Contents) → Alike q r → length (q .points) ≡ length (r .points)
-alike-length q r h = sym (length-map (q .points) _) ∙ ap length (h .places) ∙ length-map (r .points) _
+alike-length q r h = sym (length-map (q .points) _) ∙ ap length (h .locations) ∙ length-map (r .points) _
 
 -- contents at the same locations have the same R0
 pub radius-alike : (q r : Contents) → Alike q r → extentOf q .radius ≡ extentOf r .radius
 unfolding extentOf initialRadius twiceArea
-radius-alike q r h = rw (h .places, alike-length q r h)
+radius-alike q r h = rw (h .locations, alike-length q r h)

@@ -23,7 +23,7 @@ use Rattle.laws.proofs.Tests.{or-true, cond-cases}
 use Rattle.laws.proofs.ListLaws.{all-imp, all-any, map-same}
 use Rattle.laws.proofs.PrecedesLaws.{at-same}
 use Rattle.laws.proofs.BesideLaws.{beside-both, beside-self}
-use Rattle.laws.proofs.AlikeLaws.{Together, itself, none, distance-same, choice-paired, spot-same, valued, unvalued, together, few-alike, neighbourhood-same}
+use Rattle.laws.proofs.AlikeLaws.{Together, itself, none, distance-same, choice-paired, coincident-same, valued, unvalued, together, few-alike, neighbourhood-same}
 
 choice-is : (c d : Choice) → c .points ≡ d .points → c .radius ≡ d .radius → c ≡ d
 choice-is c d e f = let g : _≡_ {A = Choice} (record { points = c .points; radius = c .radius }) (record { points = d .points; radius = d .radius }) = rw (e, f) in g
@@ -86,28 +86,28 @@ module _ (s t : State) (alike : Alike (s .contents) (t .contents)) (kept : s .ex
 
   pub answers-alike : AnswersAlike s t p
   answers-alike =
-      let spot = spot-same s t p kept Together (λ a b h. h) (together s t alike kept p) in
+      let first = coincident-same s t p kept Together (λ a b h. h) (together s t alike kept p) in
       record {
         chosen = choice-same;
-        exact = mean-by s p ∙ rw (spot, choice-same, neighbourhood-whole) (sym (mean-by t p));
-        computed = answer-by s p ∙ rw (spot, choice-same, neighbourhood-whole) (sym (answer-by t p));
+        exact = mean-by s p ∙ rw (first, choice-same, neighbourhood-whole) (sym (mean-by t p));
+        computed = answer-by s p ∙ rw (first, choice-same, neighbourhood-whole) (sym (answer-by t p));
         records = records-same;
       }
 
 -- a change at (x, y), refused or not, leaves the locations; and values differ after it only at the point there
 module _ (x y : ℕ) (z : ℤ) where
-  revalued-places : (l : List Point) → locations l ≡ locations (revalue x y z l)
-  revalued-places [] = refl
-  revalued-places (a ∷ l) =
+  revalued-locations : (l : List Point) → locations l ≡ locations (revalue x y z l)
+  revalued-locations [] = refl
+  revalued-locations (a ∷ l) =
       cond-cases (λ m. locations (a ∷ l) ≡ locations m) (at x y a)
       (λ h. rw (at-same x y a h .0, at-same x y a h .1))
-      (λ _. rw (revalued-places l))
+      (λ _. rw (revalued-locations l))
 
   pub change-alike : (q : Contents) → Alike q (after (Change x y z) q)
   unfolding after accepted
   change-alike q =
       cond-cases (λ r. Alike q r) (eqb (refusal (Change x y z) q) 0)
-      (λ _. record { places = revalued-places (q .points) }) (λ _. record { places = refl })
+      (λ _. record { locations = revalued-locations (q .points) }) (λ _. record { locations = refl })
 
   module _ (q : Contents) (p : Location) (unchosen : taken x y (choice (settled q) p .points) ≡ false) where
     same-list : (l : List Point) → Beside (Spares (settled q) p) l l

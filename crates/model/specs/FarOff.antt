@@ -17,7 +17,7 @@ use Rattle.model.specs.Calls.{taken}
 
 -- they stand at the same locations, document 02's places
 pub record Alike (q r : Contents) : Type 0 where
-  pub places : locations (q .points) ≡ locations (r .points)
+  pub locations : locations (q .points) ≡ locations (r .points)
 
 -- the point a of s has the value of b, or no point at its location is chosen at p
 abbrev pub Spares : State → Location → Point → Point → Type 0
@@ -29,8 +29,8 @@ Spared s p r = Beside (Spares s p) (s .contents .points) (r .points)
 
 -- what depends on no value: the points chosen at p, their order, R, their distances, kinds and weights, exact and computed. `chooses-alike` of the crate laws
 pub record ChoosesAlike (s t : State) (p : Location) : Type 0 where
-  pub spot : coincident s p ≡ coincident t p
-  pub places : locations (choice s p .points) ≡ locations (choice t p .points)
+  pub coincident : coincident s p ≡ coincident t p
+  pub locations : locations (choice s p .points) ≡ locations (choice t p .points)
   pub radius : choice s p .radius ≡ choice t p .radius
   pub distances : map (distance s p) (choice s p .points) ≡ map (distance t p) (choice t p .points)
   pub kinds : map (λ (n : Neighbour). n .kind) (neighbours s p) ≡ map (λ (n : Neighbour). n .kind) (neighbours t p)
