@@ -95,7 +95,7 @@ module _ (s t : State) (p : Location) (kept : s .extent .radius ≡ t .extent .r
       paired-cond R (leb n 4) (record { points = first-beside 4; radius = rw (few-same, distanceAt-same 4) })
       (paired-cond R (leb n 10) (record { points = first-beside n; radius = kept }) (record { points = first-beside 10; radius = distanceAt-same 10 }))
 
-  pub coincident-same : coincident s p ≡ coincident t p
+  coincident-same : coincident s p ≡ coincident t p
   unfolding coincident
   coincident-same = starts-same p (ordered s p) (ordered t p) ordered-together
 

@@ -23,7 +23,7 @@ use Rattle.laws.proofs.Tests.{or-true, cond-cases}
 use Rattle.laws.proofs.ListLaws.{all-imp, all-any, map-same}
 use Rattle.laws.proofs.PrecedesLaws.{at-same}
 use Rattle.laws.proofs.BesideLaws.{beside-both, beside-self}
-use Rattle.laws.proofs.AlikeLaws.{Together, itself, none, distance-same, choice-paired, coincident-same, valued, unvalued, together, few-alike, neighbourhood-same}
+use Rattle.laws.proofs.AlikeLaws.{Together, itself, none, distance-same, choice-paired, valued, unvalued, together, few-alike, neighbourhood-same, chooses-alike}
 
 choice-is : (c d : Choice) → c .points ≡ d .points → c .radius ≡ d .radius → c ≡ d
 choice-is c d e f = let g : _≡_ {A = Choice} (record { points = c .points; radius = c .radius }) (record { points = d .points; radius = d .radius }) = rw (e, f) in g
@@ -86,11 +86,11 @@ module _ (s t : State) (alike : Alike (s .contents) (t .contents)) (kept : s .ex
 
   pub answers-alike : AnswersAlike s t p
   answers-alike =
-      let first = coincident-same s t p kept Together (λ a b h. h) (together s t alike kept p) in
+      let alone = chooses-alike s t alike kept p .coincident in
       record {
         chosen = choice-same;
-        exact = mean-by s p ∙ rw (first, choice-same, neighbourhood-whole) (sym (mean-by t p));
-        computed = answer-by s p ∙ rw (first, choice-same, neighbourhood-whole) (sym (answer-by t p));
+        exact = mean-by s p ∙ rw (alone, choice-same, neighbourhood-whole) (sym (mean-by t p));
+        computed = answer-by s p ∙ rw (alone, choice-same, neighbourhood-whole) (sym (answer-by t p));
         records = records-same;
       }
 
