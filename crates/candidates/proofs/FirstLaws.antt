@@ -10,7 +10,7 @@ use lib.ListN.{length, take, getD, replicate, length-map}
 use lib.Seq.{take-take, take-append-le, take-length}
 use borrow.Author.Tests.{leb-true, leb-false}
 use Rattle.model.specs.Lists.{All}
-use Rattle.model.specs.Point.{Location, Point, State, point, precedes}
+use Rattle.model.specs.Point.{Location, Point, State, point, precedes, noPoint}
 use Rattle.model.specs.Distance.{squared, distance}
 use Rattle.model.specs.Order.{sort}
 use Rattle.model.specs.Choice.{nearer, ordered}
@@ -34,7 +34,7 @@ module _ (s : State) (p : Location) (xs ys : List ℕ) (zs : List ℤ) (n : ℕ)
   many = ap length points ∙ length-points xs ys zs n
 
   abbrev pointAt : ℕ → Point
-  pointAt i = getD (s .contents .points) i (point 0 0 (pos 0))
+  pointAt i = getD (s .contents .points) i noPoint
 
   -- the point of a key
   abbrev pointOf : ℕ → Point
@@ -56,11 +56,11 @@ module _ (s : State) (p : Location) (xs ys : List ℕ) (zs : List ℤ) (n : ℕ)
 
   module _ (i : ℕ) (h : i < length squares) where
     square-at : getD squares i 0 ≡ squared s p (pointAt i)
-    square-at = ap (λ (l : List ℕ). getD l i 0) held ∙ getD-map (squared s p) (s .contents .points) i 0 (point 0 0 (pos 0)) (omega (arith, size .0))
+    square-at = ap (λ (l : List ℕ). getD l i 0) held ∙ getD-map (squared s p) (s .contents .points) i 0 noPoint (omega (arith, size .0))
 
     at-index : pointAt i ≡ point (getD xs i 0 % 4096) (getD ys i 0 % 4096) (getD zs i (pos 0))
     at-index =
-        ap (λ (l : List Point). getD l i (point 0 0 (pos 0))) points ∙ points-at xs ys zs n i (point 0 0 (pos 0)) (omega (arith, size .0, many))
+        ap (λ (l : List Point). getD l i noPoint) points ∙ points-at xs ys zs n i noPoint (omega (arith, size .0, many))
 
     key-point : pointOf (key i) ≡ pointAt i
     key-point = ap pointAt (key-index (getD squares i 0) (getD xs i 0 % 4096) (getD ys i 0 % 4096) i (omega arith) (omega arith) (omega (arith, size .1)))
@@ -104,7 +104,7 @@ module _ (s : State) (p : Location) (xs ys : List ℕ) (zs : List ℤ) (n : ℕ)
 
   points-within : map pointAt indices ≡ passing inside (s .contents .points)
   points-within =
-      map-indices (λ i. within limit (getD squares i 0)) inside (s .contents .points) (point 0 0 (pos 0)) (length squares) (omega (arith, size .0)) (λ i h. ap (λ d. leb d limit) (square-at i h))
+      map-indices (λ i. within limit (getD squares i 0)) inside (s .contents .points) noPoint (length squares) (omega (arith, size .0)) (λ i h. ap (λ d. leb d limit) (square-at i h))
       ∙ rw (size .0, take-length)
 
   pub found : length indices ≡ pointsWithin s p limit

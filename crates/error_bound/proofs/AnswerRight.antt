@@ -8,7 +8,7 @@ use mathlib.Core.Bool.{Bool, true, false, cond}
 use lib.IntN.{ℤ, pos, negsuc, natAbs, _+ℤ_, _-ℤ_, _*ℤ_}
 use lib.ListN.{length, getD}
 use lib.Signed.{_≤ℤ_}
-use Rattle.model.specs.Point.{Location, State, point, inRange}
+use Rattle.model.specs.Point.{Location, State, inRange, noPoint}
 use Rattle.model.specs.Choice.{coincident, choice}
 use Rattle.model.specs.Fraction.{whole}
 use Rattle.model.specs.Weight.{Neighbourhood, neighbourhoodOf, neighbourhood, weight}
@@ -64,13 +64,13 @@ module _ (s : State) (p : Location) (A : LookupInRange s p) where
   greatest = greatestChosen s p
 
   -- each chosen value lies between them
-  chosen-least : (i : ℕ) → i < length (choice s p .points) → least ≤ℤ getD (choice s p .points) i (point 0 0 (pos 0)) .z
+  chosen-least : (i : ℕ) → i < length (choice s p .points) → least ≤ℤ getD (choice s p .points) i noPoint .z
   unfolding leastChosen
-  chosen-least i l = all-below (λ a. least ≤ℤ a .z) (choice s p .points) i (point 0 0 (pos 0)) (least-all (choice s p .points)) l
+  chosen-least i l = all-below (λ a. least ≤ℤ a .z) (choice s p .points) i noPoint (least-all (choice s p .points)) l
 
-  chosen-greatest : (i : ℕ) → i < length (choice s p .points) → getD (choice s p .points) i (point 0 0 (pos 0)) .z ≤ℤ greatest
+  chosen-greatest : (i : ℕ) → i < length (choice s p .points) → getD (choice s p .points) i noPoint .z ≤ℤ greatest
   unfolding greatestChosen
-  chosen-greatest i l = all-below (λ a. a .z ≤ℤ greatest) (choice s p .points) i (point 0 0 (pos 0)) (greatest-all (choice s p .points)) l
+  chosen-greatest i l = all-below (λ a. a .z ≤ℤ greatest) (choice s p .points) i noPoint (greatest-all (choice s p .points)) l
 
   first-least : least ≤ℤ firstChosen s p .z
   unfolding firstChosen

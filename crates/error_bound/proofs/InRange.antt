@@ -4,12 +4,11 @@ use Prim.Native.Nat.{ℕ, _*_, _^_, _≤_, _<_}
 use native.Mathlib.Nat.{mul-pos, mul-le-mul}
 use mathlib.Core.Bool.{Bool, true, false, cond}
 use lib.Dec.{leb, ltb, eqb}
-use lib.IntN.{pos}
 use lib.ListN.{length, getD}
 use lib.Signed.{_≤ℤ_}
 use borrow.Author.Tests.{ltb-true}
 use Rattle.model.specs.Lists.{All}
-use Rattle.model.specs.Point.{Location, Point, State, point, inRange}
+use Rattle.model.specs.Point.{Location, Point, State, inRange, noPoint}
 use Rattle.model.specs.Distance.{distance}
 use Rattle.model.specs.Choice.{few, coincident, choice}
 use Rattle.model.specs.Influence.{influenceAt, inverse, tapered, edge}
@@ -44,17 +43,17 @@ pub record LookupInRange (s : State) (p : Location) : Type 0 where
 
 module _ (s : State) (p : Location) (A : LookupInRange s p) where
   abbrev chosen : ℕ → Point
-  chosen i = getD (choice s p .points) i (point 0 0 (pos 0))
+  chosen i = getD (choice s p .points) i noPoint
 
   chosen-inside : (i : ℕ) → i < length (choice s p .points) → Inside (chosen i)
-  chosen-inside i l = all-below Inside (choice s p .points) i (point 0 0 (pos 0)) (chosen-all s p Inside (A .inside)) l
+  chosen-inside i l = all-below Inside (choice s p .points) i noPoint (chosen-all s p Inside (A .inside)) l
 
   chosen-far : (i : ℕ) → i < length (choice s p .points) → distance s p (chosen i) ≤ 2 ^ 24
   chosen-far i l = point-most s p (A .domain) (chosen i) (chosen-inside i l)
 
   module _ (apart : coincident s p ≡ false) where
     chosen-off : (i : ℕ) → i < length (choice s p .points) → 0 < distance s p (chosen i)
-    chosen-off i l = all-below (λ a. 0 < distance s p a) (choice s p .points) i (point 0 0 (pos 0)) (chosen-apart s p apart) l
+    chosen-off i l = all-below (λ a. 0 < distance s p a) (choice s p .points) i noPoint (chosen-apart s p apart) l
 
     pub neighbourhood-fair : Fair (neighbourhood s p)
     unfolding neighbourhood neighbourhoodOf
@@ -69,8 +68,8 @@ module _ (s : State) (p : Location) (A : LookupInRange s p) where
   pub neighbourhood-spread : Spread (neighbourhood s p) (leastChosen s p)
   unfolding neighbourhood neighbourhoodOf leastChosen
   neighbourhood-spread = record {
-    lifted = λ i l. above (leastChosen s p) (chosen i .z) (all-below (λ a. leastChosen s p ≤ℤ a .z) (choice s p .points) i (point 0 0 (pos 0)) (least-all (choice s p .points)) l);
+    lifted = λ i l. above (leastChosen s p) (chosen i .z) (all-below (λ a. leastChosen s p ≤ℤ a .z) (choice s p .points) i noPoint (least-all (choice s p .points)) l);
     small = λ i l. spread (leastChosen s p) (chosen i .z)
         (least-keeps (λ z. inRange z ≡ true) (choice s p .points) refl (A .values))
-        (all-below (λ a. inRange (a .z) ≡ true) (choice s p .points) i (point 0 0 (pos 0)) (A .values) l);
+        (all-below (λ a. inRange (a .z) ≡ true) (choice s p .points) i noPoint (A .values) l);
   }

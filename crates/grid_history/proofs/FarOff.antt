@@ -1,15 +1,14 @@
 -- §5 of the grids of every two programs: whatever the calls of each, where their surveys stand at the same locations, a cell is the same number wherever the values differ
--- only at points not chosen at its location. These are the cells that need no second look.
+-- only at points not chosen at its location.
 use mathlib.Core.Path.{_≡_, refl, sym, ap, _∙_}
 use Prim.Native.Nat.{ℕ, _+_, _-_, _*_, _<_}
 use native.Mathlib.Omega.{arith}
-use mathlib.Core.Bool.{Bool, true, false, cond}
+use mathlib.Core.Bool.{false}
 use mathlib.Core.List.{List, [], map}
 use mathlib.Core.Option.{none, some}
-use lib.Dec.{eqb}
 use lib.IntN.{ℤ, pos}
 use lib.ListN.{length, take, drop, getD, List·getD-append}
-use borrow.Author.Tests.{eqb-true, eq-eqb}
+use borrow.Author.Tests.{eq-eqb}
 use contract.Lifetimes.{Lfts}
 use denote.Ref.{RefT, now}
 use Rattle.model.specs.Point.{Contents, State}
@@ -31,8 +30,9 @@ use Rattle.history.proofs.Runs.{leaves}
 use Rattle.history.proofs.FarOff.{mended-alike, mended-spares}
 use Rattle.grid_rules.specs.declared.Grid.{Grid}
 use Rattle.grid_rules.specs.declared.Filled.{Filled}
-use Rattle.grid_rules.specs.declared.Filled.the-variants.{Cells, Refused}
+use Rattle.grid_rules.specs.declared.Filled.the-variants.{Cells}
 use Rattle.grid_rules.specs.GridOf.{gridOf}
+use Rattle.grid_rules.proofs.Told.{told-cells}
 use Rattle.grid.specs.FilledAs.{filledAs}
 use Rattle.grid.proofs.cells.Reads as cells-of
 use Rattle.grid.proofs.write.Reads as write-of
@@ -54,18 +54,11 @@ told-same q r alike g n = rw (alike-length q r alike)
 
 -- what lent cells hold of a grid that was filled
 module _ (s : State) (g : Model·Grid) (d : List ℤ) where
-  filled-accepted : (n : ℕ) → filledAs s g (length d) ≡ Cells n → gridRefusal g s (length d) ≡ 0
-  unfolding filledAs
-  filled-accepted n h = by-test (eqb (gridRefusal g s (length d)) 0) refl h
-    where
-      by-test : (t : Bool) → eqb (gridRefusal g s (length d)) 0 ≡ t → cond t (Cells (cellCount g)) (Refused (gridRefusal g s (length d))) ≡ Cells n → gridRefusal g s (length d) ≡ 0
-      by-test true e h = eqb-true (gridRefusal g s (length d)) 0 e
-      by-test false e h = let z : _≡_ {A = ℕ} 0 1 = cc h in absurd (omega arith)
-
   filled-at : (n : ℕ) → filledAs s g (length d) ≡ Cells n → (i : ℕ) (z : ℤ) → i < cellCount g → getD (cellsInto s g d) i z ≡ getD (cells s g) i z
-  unfolding cellsInto
+  unfolding filledAs cellsInto
   filled-at n h i z k =
-      rw (eq-eqb (gridRefusal g s (length d)) 0 (filled-accepted n h)) (List·getD-append (cells s g) (drop (length (cells s g)) d) z i (omega (arith, length-cells s g)))
+      let accepted = told-cells (gridRefusal g s (length d)) (cellCount g) (filledAs s g (length d)) refl n h .0 in
+      rw (eq-eqb (gridRefusal g s (length d)) 0 accepted) (List·getD-append (cells s g) (drop (length (cells s g)) d) z i (omega (arith, length-cells s g)))
 
 module _ {cs ds : List Call} {s t : Survey} (one : Runs cs s) (other : Runs ds t) (alike : Alike (present cs) (present ds)) (g : Grid) where
   -- of `grid::cells`, lent cells of one number: what is told

@@ -38,9 +38,9 @@ module _ (q r : Contents) (alike : Alike q r) (x y : ℕ) (spared : Spared (sett
   unfolding lookupRefusal
   refusal-same = rw (alike-length q r alike)
 
-  listing-same : (n : ℕ) → neighboursRefusal x y n (settled q) ≡ neighboursRefusal x y n (settled r)
+  lent-refusal-same : (n : ℕ) → neighboursRefusal x y n (settled q) ≡ neighboursRefusal x y n (settled r)
   unfolding neighboursRefusal
-  listing-same n = rw (alike-length q r alike)
+  lent-refusal-same n = rw (alike-length q r alike)
 
   looked-same : lookedUp (settled q) x y ≡ lookedUp (settled r) x y
   unfolding lookedUp
@@ -48,11 +48,11 @@ module _ (q r : Contents) (alike : Alike q r) (x y : ℕ) (spared : Spared (sett
 
   lent-same : (n : ℕ) → lookedUpLent (settled q) x y n ≡ lookedUpLent (settled r) x y n
   unfolding lookedUpLent
-  lent-same n = rw (listing-same n, same .computed, same .chosen)
+  lent-same n = rw (lent-refusal-same n, same .computed, same .chosen)
 
   into-same : (l : List Record) → neighboursInto recordOf (settled q) x y l ≡ neighboursInto recordOf (settled r) x y l
   unfolding neighboursInto
-  into-same l = rw (listing-same (length l), same .records)
+  into-same l = rw (lent-refusal-same (length l), same .records)
 
 -- two runs, and a location at which none of the altered points is chosen
 module _ {cs ds : List Call} {s t : Survey} (one : Runs cs s) (other : Runs ds t) (alike : Alike (present cs) (present ds)) (x y : ℕ)

@@ -1,4 +1,4 @@
--- Two states at the same locations: what a lookup goes by depends on no value. Document 02, §5.
+-- What a lookup goes by in two states at the same locations depends on no value: document 02, §5.
 use mathlib.Core.Path.{_≡_, refl, sym, ap, _∙_, fun-ext}
 use Prim.Native.Nat.{ℕ}
 use mathlib.Core.Bool.{Bool, true, false, cond}
@@ -7,7 +7,7 @@ use lib.Dec.{leb}
 use lib.IntN.{ℤ, pos}
 use lib.ListN.{length, take, getD, length-map}
 use Rattle.model.specs.Lists.{Beside}
-use Rattle.model.specs.Point.{Location, Point, Contents, State, location, point}
+use Rattle.model.specs.Point.{Location, Point, Contents, State, location, noPoint}
 use Rattle.model.specs.Distance.{squared, distance, offsetX, offsetY, inner}
 use Rattle.model.specs.Radius.{twiceArea, initialRadius}
 use Rattle.model.specs.Extent.{extentOf}
@@ -25,10 +25,6 @@ pub record Together (a b : Point) : Type 0 where
 
 pub itself : (a : Point) → Together a a
 itself a = record { x = refl; y = refl }
-
--- what stands where an index is past the end
-abbrev pub none : Point
-none = point 0 0 (pos 0)
 
 starts-same : (p : Location) (l m : List Point) → Beside Together l m → startsAt p l ≡ startsAt p m
 unfolding startsAt
@@ -84,7 +80,7 @@ module _ (s t : State) (p : Location) (kept : s .extent .radius ≡ t .extent .r
 
   distanceAt-same : (i : ℕ) → distanceAt s p i ≡ distanceAt t p i
   unfolding distanceAt
-  distanceAt-same i = distance-same s t p (beside-at Together (ordered s p) (ordered t p) i none (itself none) ordered-together)
+  distanceAt-same i = distance-same s t p (beside-at Together (ordered s p) (ordered t p) i noPoint (itself noPoint) ordered-together)
 
   first-beside : (k : ℕ) → Beside R (take k (ordered s p)) (take k (ordered t p))
   first-beside k = beside-take R k (ordered s p) (ordered t p) ordered-beside
@@ -106,20 +102,12 @@ module _ (s t : State) (p : Location) (kept : s .extent .radius ≡ t .extent .r
 abbrev kindIn : Neighbour → ℕ
 kindIn n = n .kind
 
--- a neighbourhood with other values, and with none: what weights are worked out from
+-- a neighbourhood with other values, and with noPoint: what weights are worked out from
 abbrev pub valued : Neighbourhood → (ℕ → ℤ) → Neighbourhood
 valued h v = record { count = h .count; influence = h .influence; excess = h .excess; product = h .product; value = v }
 
 abbrev pub unvalued : Neighbourhood → Neighbourhood
 unvalued h = valued h (λ _. pos 0)
-
-weight-unvalued : (h : Neighbourhood) (i : ℕ) → weight h i ≡ weight (unvalued h) i
-unfolding weight
-weight-unvalued h i = refl
-
-weightF-unvalued : (h : Neighbourhood) (i : ℕ) → weightF h i ≡ weightF (unvalued h) i
-unfolding weightF
-weightF-unvalued h i = refl
 
 -- two states at the same locations, with the same R0
 module _ (s t : State) (alike : Alike (s .contents) (t .contents)) (kept : s .extent .radius ≡ t .extent .radius) (p : Location) where
@@ -137,8 +125,8 @@ module _ (s t : State) (alike : Alike (s .contents) (t .contents)) (kept : s .ex
   neighbourhood-alike : (c d : Choice) → Paired Together c d → unvalued (neighbourhoodOf s p c) ≡ unvalued (neighbourhoodOf t p d)
   unfolding neighbourhoodOf
   neighbourhood-alike c d h =
-      let at : (i : ℕ) → Together (getD (c .points) i none) (getD (d .points) i none) = λ i. beside-at Together (c .points) (d .points) i none (itself none) (h .points) in
-      let away : (i : ℕ) → distance s p (getD (c .points) i none) ≡ distance t p (getD (d .points) i none) = λ i. distance-same s t p (at i) in
+      let at : (i : ℕ) → Together (getD (c .points) i noPoint) (getD (d .points) i noPoint) = λ i. beside-at Together (c .points) (d .points) i noPoint (itself noPoint) (h .points) in
+      let away : (i : ℕ) → distance s p (getD (c .points) i noPoint) ≡ distance t p (getD (d .points) i noPoint) = λ i. distance-same s t p (at i) in
       let e₁ : length (c .points) ≡ length (d .points) = beside-length Together (c .points) (d .points) (h .points) in
       let e₂ : neighbourhoodOf s p c .influence ≡ neighbourhoodOf t p d .influence = fun-ext (λ i. rw (few-alike, h .radius, away i)) in
       let e₃ : neighbourhoodOf s p c .excess ≡ neighbourhoodOf t p d .excess = fun-ext (λ i. fun-ext (λ j. excess-same s t p (at i) (at j))) in
@@ -148,6 +136,14 @@ module _ (s t : State) (alike : Alike (s .contents) (t .contents)) (kept : s .ex
   pub neighbourhood-same : unvalued (neighbourhood s p) ≡ unvalued (neighbourhood t p)
   unfolding neighbourhood
   neighbourhood-same = neighbourhood-alike (choice s p) (choice t p) chosen
+
+  weights-same : (i : ℕ) → weight (neighbourhood s p) i ≡ weight (neighbourhood t p) i
+  unfolding weight
+  weights-same i = ap (λ (h : Neighbourhood). weight h i) neighbourhood-same
+
+  computed-same : (i : ℕ) → weightF (neighbourhood s p) i ≡ weightF (neighbourhood t p) i
+  unfolding weightF
+  computed-same i = ap (λ (h : Neighbourhood). weightF h i) neighbourhood-same
 
   kinds-alike : (c d : Choice) → Paired Together c d → map kindIn (map (neighbourOf s p (c .radius)) (c .points)) ≡ map kindIn (map (neighbourOf t p (d .radius)) (d .points))
   unfolding neighbourOf
@@ -168,8 +164,8 @@ module _ (s t : State) (alike : Alike (s .contents) (t .contents)) (kept : s .ex
         radius = chosen .radius;
         distances = beside-map Together (distance s p) (distance t p) (λ a b h. distance-same s t p h) (choice s p .points) (choice t p .points) (chosen .points);
         kinds = kinds-same;
-        weights = λ i. weight-unvalued (neighbourhood s p) i ∙ ap (λ (h : Neighbourhood). weight h i) neighbourhood-same ∙ sym (weight-unvalued (neighbourhood t p) i);
-        computed = λ i. weightF-unvalued (neighbourhood s p) i ∙ ap (λ (h : Neighbourhood). weightF h i) neighbourhood-same ∙ sym (weightF-unvalued (neighbourhood t p) i);
+        weights = weights-same;
+        computed = computed-same;
       }
 
 pub alike-length : (q r : Contents) → Alike q r → length (q .points) ≡ length (r .points)

@@ -6,11 +6,10 @@ use native.Mathlib.Omega.{arith}
 use mathlib.Core.Bool.{Bool, true, false, cond, false≢true}
 use mathlib.Core.List.{List, [], _∷_}
 use lib.Dec.{leb}
-use lib.IntN.{pos}
 use lib.ListN.{length, take, getD, length-take}
 use borrow.Author.Tests.{leb-true, leb-false}
 use Rattle.model.specs.Lists.{All}
-use Rattle.model.specs.Point.{Location, Point, State, point, at}
+use Rattle.model.specs.Point.{Location, Point, State, at, noPoint}
 use Rattle.model.specs.Distance.{gap, squared, distanceOf, distance}
 use Rattle.model.specs.Choice.{Choice, nearer, ordered, within, few, distanceAt, byCount, choiceApart, startsAt, coincident, choice}
 use Rattle.model.specs.Mean.{firstChosen}
@@ -125,8 +124,8 @@ module _ (s : State) (p : Location) where
       distanceAt-most : (i : ℕ) → distanceAt s p i ≤ 2 ^ 24
       unfolding distanceAt
       distanceAt-most i =
-          point-most (getD (ordered s p) i (point 0 0 (pos 0)))
-          (all-at Inside (ordered s p) i (point 0 0 (pos 0)) (omega arith, omega arith) (ordered-all Inside inside))
+          point-most (getD (ordered s p) i noPoint)
+          (all-at Inside (ordered s p) i noPoint (omega arith, omega arith) (ordered-all Inside inside))
 
       few-most : (t : Bool) (n : ℕ) → n ≤ 2 ^ 24 → cond t 0 n ≤ 2 ^ 24
       few-most true n h = omega arith
@@ -141,15 +140,15 @@ module _ (s : State) (p : Location) where
 
 -- the first chosen point is at p exactly where some point is
 module _ (s : State) (p : Location) where
-  starts-zero : (l : List Point) → startsAt p l ≡ true → distance s p (getD (take 1 l) 0 (point 0 0 (pos 0))) ≡ 0
+  starts-zero : (l : List Point) → startsAt p l ≡ true → distance s p (getD (take 1 l) 0 noPoint) ≡ 0
   unfolding startsAt distance
   starts-zero [] h = absurd (false≢true h)
   starts-zero (a ∷ l) h = ap distanceOf (squared-zero s p a .1 h)
 
   pub first-at : coincident s p ≡ true → distance s p (firstChosen s p) ≡ 0
   unfolding firstChosen coincident
-  first-at h = ap (λ (c : Choice). distance s p (getD (c .points) 0 (point 0 0 (pos 0)))) (choice-coincident s p h) ∙ starts-zero (ordered s p) h
+  first-at h = ap (λ (c : Choice). distance s p (getD (c .points) 0 noPoint)) (choice-coincident s p h) ∙ starts-zero (ordered s p) h
 
   pub first-apart : 0 < length (s .contents .points) → coincident s p ≡ false → 0 < distance s p (firstChosen s p)
   unfolding firstChosen
-  first-apart n h = all-below (λ a. 0 < distance s p a) (choice s p .points) 0 (point 0 0 (pos 0)) (chosen-apart s p h) (chosen-some s p n)
+  first-apart n h = all-below (λ a. 0 < distance s p a) (choice s p .points) 0 noPoint (chosen-apart s p h) (chosen-some s p n)

@@ -1,4 +1,4 @@
--- Two states at the same locations whose values differ only at points not chosen at a location: a lookup there gives the same. Document 02, §5.
+-- A lookup gives the same in two states at the same locations whose values differ only at points that it does not choose: document 02, §5.
 use mathlib.Core.Path.{_≡_, refl, sym, ap, _∙_}
 use mathlib.Core.Logic.{inl, inr}
 use Prim.Native.Nat.{ℕ}
@@ -9,7 +9,7 @@ use lib.IntN.{ℤ, pos, _+ℤ_, _*ℤ_}
 use lib.ListN.{getD}
 use borrow.Author.Tests.{eq-eqb}
 use Rattle.model.specs.Lists.{All, Beside}
-use Rattle.model.specs.Point.{Location, Point, Contents, State, point, at}
+use Rattle.model.specs.Point.{Location, Point, Contents, State, point, noPoint, at}
 use Rattle.model.specs.Radius.{locations}
 use Rattle.model.specs.Extent.{lesser, valuesBy, settled}
 use Rattle.model.specs.Choice.{Choice, coincident, choice}
@@ -23,19 +23,19 @@ use Rattle.laws.proofs.Tests.{or-true, cond-cases}
 use Rattle.laws.proofs.ListLaws.{all-imp, all-any, map-same}
 use Rattle.laws.proofs.PrecedesLaws.{at-same}
 use Rattle.laws.proofs.BesideLaws.{beside-both, beside-self}
-use Rattle.laws.proofs.AlikeLaws.{Together, itself, none, distance-same, choice-paired, valued, unvalued, together, few-alike, neighbourhood-same, chooses-alike}
+use Rattle.laws.proofs.AlikeLaws.{Together, itself, distance-same, choice-paired, valued, unvalued, together, few-alike, neighbourhood-same, chooses-alike}
 
 choice-is : (c d : Choice) → c .points ≡ d .points → c .radius ≡ d .radius → c ≡ d
 choice-is c d e f = let g : _≡_ {A = Choice} (record { points = c .points; radius = c .radius }) (record { points = d .points; radius = d .radius }) = rw (e, f) in g
 
 -- the mean and the answer, from the choice and the neighbourhood
 mean-by : (s : State) (p : Location)
-    → mean s p ≡ cond (coincident s p) (record { top = getD (choice s p .points) 0 none .z; bot = 1 }) (weightedMean (neighbourhood s p))
+    → mean s p ≡ cond (coincident s p) (record { top = getD (choice s p .points) 0 noPoint .z; bot = 1 }) (weightedMean (neighbourhood s p))
 unfolding mean firstChosen
 mean-by s p = refl
 
 answer-by : (s : State) (p : Location)
-    → answer s p ≡ cond (coincident s p) (pos 256 *ℤ getD (choice s p .points) 0 none .z)
+    → answer s p ≡ cond (coincident s p) (pos 256 *ℤ getD (choice s p .points) 0 noPoint .z)
     ((pos 256 *ℤ valuesBy lesser (choice s p .points)) +ℤ pos (nearestHalf (meanF (neighbourhood s p) (valuesBy lesser (choice s p .points)))))
 unfolding answer firstChosen leastChosen
 answer-by s p = refl
@@ -74,7 +74,7 @@ module _ (s t : State) (alike : Alike (s .contents) (t .contents)) (kept : s .ex
   unfolding neighbourhood neighbourhoodOf
   neighbourhood-whole =
       ap (λ (h : Neighbourhood). valued h (neighbourhood s p .value)) (neighbourhood-same s t alike kept p)
-      ∙ ap (λ (c : Choice). valued (unvalued (neighbourhood t p)) (λ i. getD (c .points) i none .z)) choice-same
+      ∙ ap (λ (c : Choice). valued (unvalued (neighbourhood t p)) (λ i. getD (c .points) i noPoint .z)) choice-same
 
   records-alike : (r : ℕ) (l : List Point) → map (neighbourOf s p r) l ≡ map (neighbourOf t p r) l
   unfolding neighbourOf

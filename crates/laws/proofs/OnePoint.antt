@@ -10,7 +10,7 @@ use lib.Dec.{leb}
 use lib.IntN.{ℤ, pos, negsuc, negℤ, natAbs, _+ℤ_, _-ℤ_, _*ℤ_, *ℤ-comm, +ℤ-idl, negℤ-negℤ, negℤ-+ℤ}
 use lib.ListN.{getD}
 use borrow.Author.Tests.{ne-eqb}
-use Rattle.model.specs.Point.{Location, State, point, at}
+use Rattle.model.specs.Point.{Location, State, point, at, noPoint}
 use Rattle.model.specs.Distance.{gap, squared, distance}
 use Rattle.model.specs.Extent.{surveyOf}
 use Rattle.model.specs.Choice.{Choice, within, coincident, byCount, choiceApart, choice}
@@ -118,7 +118,7 @@ module _ (x y : ℕ) (z : ℤ) (p : Location) where
 
   first-one : firstChosen one p .z ≡ z
   unfolding firstChosen
-  first-one = ap (λ (c : Choice). getD (c .points) 0 (point 0 0 (pos 0)) .z) choice-one
+  first-one = ap (λ (c : Choice). getD (c .points) 0 noPoint .z) choice-one
 
   weighted-one : at (p .x) (p .y) (point x y z) ≡ false → Whole (weightedMean (neighbourhoodOf one p chosen)) z
   unfolding neighbourhoodOf

@@ -5,7 +5,7 @@ use mathlib.Core.Bool.{Bool, true, false}
 use mathlib.Core.List.{List}
 use lib.IntN.{ℤ, pos}
 use lib.ListN.{length, getD}
-use Rattle.model.specs.Point.{Point, point}
+use Rattle.model.specs.Point.{Point, point, noPoint}
 use Rattle.point_arrays.specs.PointArrays.{wrapped, pointsIn}
 use Rattle.point_arrays.proofs.ReadLaws.{length-points, points-at}
 use Rattle.locate.specs.Leading.{leading}
@@ -27,14 +27,14 @@ module _ (f : Point → Bool) (xs ys : List ℕ) (n : ℕ) where
     below : (zs : List ℤ) → i < length (pointsIn xs ys zs n)
     below zs = rw (length-points xs ys zs n) h
 
-    tested : (t : Bool) → Test i t → (zs : List ℤ) → f (getD (pointsIn xs ys zs n) i (point 0 0 (pos 0))) ≡ t
-    tested t e zs = ap f (points-at xs ys zs n i (point 0 0 (pos 0)) h) ∙ e (getD zs i (pos 0))
+    tested : (t : Bool) → Test i t → (zs : List ℤ) → f (getD (pointsIn xs ys zs n) i noPoint) ≡ t
+    tested t e zs = ap f (points-at xs ys zs n i noPoint h) ∙ e (getD zs i (pos 0))
 
     pub search-more : Test i true → Searched (i + 1)
-    search-more e zs = leading-more f (pointsIn xs ys zs n) i (point 0 0 (pos 0)) (below zs) (p zs) (tested true e zs)
+    search-more e zs = leading-more f (pointsIn xs ys zs n) i noPoint (below zs) (p zs) (tested true e zs)
 
     pub search-stop : Test i false → (zs : List ℤ) → i ≡ leading f (pointsIn xs ys zs n)
-    search-stop e zs = sym (leading-stop f (pointsIn xs ys zs n) i (point 0 0 (pos 0)) (below zs) (p zs) (tested false e zs))
+    search-stop e zs = sym (leading-stop f (pointsIn xs ys zs n) i noPoint (below zs) (p zs) (tested false e zs))
 
   pub search-end : (i : ℕ) → i ≡ min n 256 → Searched i → (zs : List ℤ) → i ≡ leading f (pointsIn xs ys zs n)
   search-end i e p zs = sym (leading-end f (pointsIn xs ys zs n) i (e ∙ sym (length-points xs ys zs n)) (p zs))

@@ -10,7 +10,7 @@ use lib.IntN.{ℤ, pos, natAbs, _+ℤ_, _*ℤ_, +ℤ-idr}
 use lib.Signed.{_≤ℤ_}
 use lib.ListN.{getD}
 use Rattle.model.specs.Lists.{All}
-use Rattle.model.specs.Point.{Location, Point, State, point, inDomain}
+use Rattle.model.specs.Point.{Location, Point, State, inDomain, noPoint}
 use Rattle.model.specs.Distance.{distance, offsetX, offsetY}
 use Rattle.model.specs.Choice.{coincident, choice}
 use Rattle.model.specs.Weight.{neighbourhood}
@@ -55,9 +55,9 @@ module _ (s : State) (p : Location) (c : Chosen) (A : Asked s p c) where
   first-distance = ap (λ (a : Neighbour). a .distance) first-is
 
   -- a fact of every point in the domain is one of each neighbour
-  near-all : (P : Point → Type 0) → ((a : Point) → Inside a → P a) → (i : ℕ) → i < c .count → P (getD (choice s p .points) i (point 0 0 (pos 0)))
+  near-all : (P : Point → Type 0) → ((a : Point) → Inside a → P a) → (i : ℕ) → i < c .count → P (getD (choice s p .points) i noPoint)
   near-all P h i l =
-      all-below P (choice s p .points) i (point 0 0 (pos 0)) (chosen-all s p P (all-imp Inside P h (s .contents .points) inside)) (rw (A .chose .count) at l)
+      all-below P (choice s p .points) i noPoint (chosen-all s p P (all-imp Inside P h (s .contents .points) inside)) (rw (A .chose .count) at l)
 
   pub bounded : Bounded c
   unfolding neighbourAt

@@ -5,10 +5,10 @@ use Prim.Native.Nat.{ℕ, zero, suc, _*_, _<_}
 use native.Mathlib.Omega.{arith}
 use mathlib.Core.List.{List, [], _∷_, map}
 use lib.Ieee.{Float, binary64, mul, div}
-use lib.IntN.{ℤ, pos}
+use lib.IntN.{ℤ}
 use lib.ListN.{getD}
 use lib.Seq.{getD-take}
-use Rattle.model.specs.Point.{Location, Point, State, point}
+use Rattle.model.specs.Point.{Location, Point, State, noPoint}
 use Rattle.model.specs.Distance.{inner}
 use Rattle.model.specs.Choice.{choice}
 use Rattle.model.specs.Influence.{Influence, isEdge}
@@ -70,13 +70,13 @@ points-back s p (a ∷ l) = ap (λ (m : List Point). a ∷ m) (points-back s p l
 
 module _ (s : State) (p : Location) (c : Chosen) (C : Chose s p c) where
   abbrev chosenAt : ℕ → Point
-  chosenAt i = getD (choice s p .points) i (point 0 0 (pos 0))
+  chosenAt i = getD (choice s p .points) i noPoint
 
   pub item-is : (i : ℕ) → i < c .count → itemAt c i ≡ neighbourAt s p (chosenAt i)
   item-is i l =
       sym (getD-take (c .count) (c .items) i noNeighbour l)
       ∙ ap (λ (m : List Neighbour). getD m i noNeighbour) (C .items)
-      ∙ getD-map (neighbourAt s p) (choice s p .points) i noNeighbour (point 0 0 (pos 0)) (rw (C .count) at l)
+      ∙ getD-map (neighbourAt s p) (choice s p .points) i noNeighbour noPoint (rw (C .count) at l)
 
   pub seen-agrees : Agree (seen c) (neighbourhood s p)
   unfolding seen neighbourhood neighbourhoodOf neighbourAt excessBetween excessOf inner

@@ -3,10 +3,9 @@ use Prim.Native.Nat.{ℕ}
 use mathlib.Core.Bool.{Bool, false, cond}
 use mathlib.Core.List.{List, [], _∷_}
 use lib.Dec.{leb}
-use lib.IntN.{pos}
 use lib.ListN.{length, take, getD}
 use Rattle.model.specs.Lists.{count}
-use Rattle.model.specs.Point.{Location, Point, State, point, at, lexical, precedes}
+use Rattle.model.specs.Point.{Location, Point, State, at, lexical, precedes, noPoint}
 use Rattle.model.specs.Distance.{squared, distance}
 use Rattle.model.specs.Order.{sort}
 
@@ -37,7 +36,7 @@ pub record Choice : Type 0 where
 -- D of the point at index i of the order
 unfoldable pub distanceAt : State → Location → ℕ → ℕ
 unfolding distance ordered
-distanceAt s p i = distance s p (getD (ordered s p) i (point 0 0 (pos 0)))
+distanceAt s p i = distance s p (getD (ordered s p) i noPoint)
 
 -- rules 3 to 5, for n points within R0
 unfoldable pub byCount : State → Location → ℕ → Choice

@@ -4,7 +4,7 @@ use mathlib.Core.Bool.{cond}
 use lib.IntN.{ℤ, pos, _-ℤ_, _*ℤ_, natAbs}
 use lib.ListN.{getD}
 use lib.Signed.{_≤ℤ_}
-use Rattle.model.specs.Point.{Location, Point, State, point}
+use Rattle.model.specs.Point.{Location, Point, State, noPoint}
 use Rattle.model.specs.Extent.{lesser, greater, valuesBy}
 use Rattle.model.specs.Choice.{choice, coincident}
 use Rattle.model.specs.Fraction.{Signed, sum, timesZ, sumZ, overZ}
@@ -18,7 +18,7 @@ weightedMean h = overZ (sumZ (λ i. timesZ (weight h i) (h .value i)) (h .count)
 -- the first chosen point
 unfoldable pub firstChosen : State → Location → Point
 unfolding choice
-firstChosen s p = getD (choice s p .points) 0 (point 0 0 (pos 0))
+firstChosen s p = getD (choice s p .points) 0 noPoint
 
 -- the exact mean at p: of a point at p its value
 unfoldable pub mean : State → Location → Signed

@@ -23,6 +23,10 @@ location x y = record { x = x; y = y }
 abbrev pub point : ℕ → ℕ → ℤ → Point
 point x y z = record { x = x; y = y; z = z }
 
+-- what is read at an index past the end of a list of points
+abbrev pub noPoint : Point
+noPoint = point 0 0 (pos 0)
+
 -- what calls determine, document 01's what stands: the points
 pub record Contents : Type 0 where
   pub points : List Point

@@ -4,7 +4,7 @@ use mathlib.Core.Bool.{Bool, true, cond, _&&_}
 use lib.Dec.{eqb}
 use lib.IntN.{ℤ, pos, _-ℤ_, _*ℤ_, natAbs}
 use lib.ListN.{length, getD}
-use Rattle.model.specs.Point.{Location, Point, State, point}
+use Rattle.model.specs.Point.{Location, Point, State, noPoint}
 use Rattle.model.specs.Distance.{distance, inner}
 use Rattle.model.specs.Choice.{Choice, choice, few}
 use Rattle.model.specs.Influence.{Influence, influenceAt, isEdge, factor}
@@ -27,7 +27,7 @@ excessOf s p a b = natAbs (pos (distance s p a * distance s p b) -ℤ (pos 65536
 unfoldable pub neighbourhoodOf : State → Location → Choice → Neighbourhood
 unfolding distance influenceAt excessOf
 neighbourhoodOf s p c =
-    let chosen : ℕ → Point = λ i. getD (c .points) i (point 0 0 (pos 0)) in
+    let chosen : ℕ → Point = λ i. getD (c .points) i noPoint in
     record {
       count = length (c .points);
       influence = λ i. influenceAt (few s) (c .radius) (distance s p (chosen i));

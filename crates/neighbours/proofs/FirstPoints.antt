@@ -6,11 +6,10 @@ use native.Mathlib.Omega.{arith}
 use mathlib.Core.Bool.{Bool, true, false, false≢true}
 use mathlib.Core.List.{List, [], _∷_}
 use lib.Dec.{eqb}
-use lib.IntN.{pos}
 use lib.ListN.{length, take, getD, length-take}
 use lib.Seq.{take-all, getD-take}
 use borrow.Author.Tests.{eq-eqb, ne-eqb}
-use Rattle.model.specs.Point.{Location, Point, State, point, at}
+use Rattle.model.specs.Point.{Location, Point, State, at, noPoint}
 use Rattle.model.specs.Distance.{squared, distanceOf, distance}
 use Rattle.model.specs.Choice.{ordered, within, distanceAt, choiceApart, startsAt, coincident, choice}
 use Rattle.laws.proofs.RootLaws.{distance-pos}
@@ -22,9 +21,6 @@ use Rattle.candidates.specs.First.{candidateAt, noCandidate}
 use Rattle.neighbours.specs.declared.Selection.{Selection}
 use Rattle.neighbours.specs.Selects.{HoldsEnough, Selects}
 use Rattle.laws.proofs.MapLaws.{getD-map}
-
-abbrev noPoint : Point
-noPoint = point 0 0 (pos 0)
 
 -- D is 0 of a point at p alone, as tests
 zero-test : (s : State) (p : Location) (a : Point) → eqb (distance s p a) 0 ≡ at (p .x) (p .y) a
