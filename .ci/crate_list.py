@@ -36,13 +36,38 @@ def passed_on() -> dict[str, str]:
     return items
 
 
+def held() -> dict[str, set[str]]:
+    """The structs, as `survey::Survey`, each with those of its own and other libraries that its fields are."""
+    structs: dict[str, set[str]] = {}
+    for source in pathlib.Path('crates').glob('*/src/lib.rt'):
+        crate, text = source.parts[1], source.read_text(encoding='utf-8')
+        owners = {item: owner for owner, item in re.findall(r'^(?:pub )?use (\w+)::(\w+);', text, re.M)}
+        for name, fields in re.findall(r'^pub struct (\w+) \{(.*?)^\}', text, re.M | re.S):
+            types = re.findall(r': (\w+),', fields)
+            structs[f'{crate}::{name}'] = {f'{owners.get(kind, crate)}::{kind}' for kind in types}
+    passed = passed_on()
+    return {name: {f'{passed[kind]}::{kind.split("::")[1]}' if kind in passed else kind for kind in kinds} for name, kinds in structs.items()}
+
+
+def reached(crate: str) -> set[str]:
+    """The libraries whose structs stand in those of the crate, at any depth: the checker asks for them."""
+    structs = held()
+    seen: set[str] = set()
+    left = [name for name in structs if name.startswith(f'{crate}::')]
+    while left:
+        kinds = structs.get(left.pop(), set()) - seen
+        seen |= kinds
+        left += kinds
+    return {kind.split('::')[0] for kind in seen if kind in structs}
+
+
 def uses(crate: str, others: list[str]) -> list[str]:
-    """Those of the others that the crate's code, definitions or proofs name, or take an item of, in their order."""
+    """Those of the others that the crate's code, definitions or proofs name, take an item of, or hold a struct of, in their order."""
     files = [p for p in sorted(pathlib.Path('crates', crate).rglob('*')) if p.suffix in ('.rt', '.antt')]
     text = '\n'.join(p.read_text(encoding='utf-8') for p in files)
     code = '\n'.join(p.read_text(encoding='utf-8') for p in files if p.suffix == '.rt')
 
-    taken = {owner for item, owner in passed_on().items() if re.search(rf'(?<![\w:]){item}\b', code)}
+    taken = reached(crate) | {owner for item, owner in passed_on().items() if re.search(rf'(?<![\w:]){item}\b', code)}
 
     def named(other: str) -> bool:
         in_proofs = re.search(rf'Rattle\.{other}\.', text)

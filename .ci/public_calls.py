@@ -10,14 +10,14 @@ from collections.abc import Iterator
 # A crate of crates.txt is on the public face, or below it, where a function may ask something of
 # its callers, or a program, which nobody calls.
 FACE = """
-    survey_file survey lending history grid grid_reading esri grid_history grid_program esri_program
-    many_lookups whole_files file_edits file_lookups file_neighbours file_grids grid_files shepard
+    survey_file survey lending history grid grid_reading grid_rows esri grid_history grid_program
+    esri_program many_lookups whole_files file_edits file_lookups file_neighbours file_grids grid_files shepard
 """
 BELOW = """
     model laws numbers relative_error floats root digits point_arrays shift locate polygon extent
     trailer read_points write_points metric squares candidates neighbours influence weights
     weighted_mean error_bound lookup refusals neighbour_records grid_rules grid_cells grid_bytes
-    grid_trailer esri_cells esri_text grid_io neighbour_bytes file_access print
+    grid_trailer esri_cells esri_text row_history grid_io neighbour_bytes file_access print
 """
 PROGRAMS = """
     shepard_grid shepard_esri shepard_replay

@@ -2,7 +2,7 @@
 
 Without an argument the list is written. With --check it is compared with the edits, and each edit with its head and its crate:
 an edit's first line is `# SUBJECT: WRONG PROGRAM`, where SUBJECT is a function of the crate, or, for an edit of specs/, a definition of
-the edited file, as `Choice.nearer`; of a crate with no code the line ends in `(refused by CASE)`, CASE a theorem of its specs/.
+the edited file, as `Choice.nearer`; of a crate with no code the line ends in `(refused by CASE)`, CASE a theorem of its specs/ or proofs/.
 """
 from __future__ import annotations
 
@@ -14,7 +14,7 @@ from collections import Counter
 
 # the crates that callers use: each of their public functions has at least LEAST edits of its own
 PUBLIC = ('survey_file', 'survey', 'lending', 'many_lookups', 'grid', 'esri', 'grid_program', 'esri_program', 'history', 'grid_history',
-          'whole_files', 'file_edits', 'file_lookups', 'file_neighbours', 'file_grids', 'grid_reading', 'grid_files')
+          'whole_files', 'file_edits', 'file_lookups', 'file_neighbours', 'file_grids', 'grid_reading', 'grid_rows', 'grid_files')
 LEAST = 2
 # the crates that only hand calls on: each of their functions is one call of a public function of PUBLIC, whose wrong programs are its own
 HANDING_ON = ('shepard',)
@@ -147,7 +147,7 @@ def subject_faults(edit: Edit) -> list[str]:
     if DEFINITION in edit.kinds:
         known |= {name for file in edit.files if file.startswith('specs/') for name in definitions(root / file)}
     faults = [] if edit.subject in known else [f'{edit.path}: {edit.subject} is no function of {edit.crate} and no definition of {", ".join(edit.files)}']
-    cases = {name.split('.')[1] for source in (root / 'specs').glob('*.antt') for name in definitions(source)}
+    cases = {name.split('.')[1] for folder in ('specs', 'proofs') for source in (root / folder).glob('*.antt') for name in definitions(source)}
     if edit.case and edit.case.split(',')[0] not in cases:
         faults.append(f'{edit.path}: {edit.crate} has no case {edit.case.split(",")[0]}')
     if not own and not edit.case:

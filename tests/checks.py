@@ -10,7 +10,7 @@ import exact_survey
 import permitted
 from grid_inputs import GridInput
 from journals import Journal
-from operations import BYTES
+from operations import BYTES, Operation
 from outcomes import Choice, Outcome
 from permitted import Expected, Piece
 from programs import Run, excerpt
@@ -49,12 +49,19 @@ def count_cells(counts: Counter[str], outcome: Outcome, name: str = "grid cells"
     counts[name] += sum(isinstance(each, Choice) for each in outcome.filled)
 
 
+def cells_counted(operation: Operation) -> str:
+    """The name under which the answers in what a call fills are counted."""
+    if operation.fills:
+        return "row cells"
+    return "esri cells" if operation.text else "grid cells"
+
+
 def count_call(counts: Counter[str], call: Call, expected: Expected) -> None:
     """Refused lookups and grids are compared but not counted."""
     counts["damaged files"] += call.damaged
     if expected.outcome is not None and call.operation.counted:
         counts[call.operation.counted] += 1
-        count_cells(counts, expected.outcome, "esri cells" if call.operation.text else "grid cells")
+        count_cells(counts, expected.outcome, cells_counted(call.operation))
 
 
 def check_shown(call: Call, line: str, trouble: str, at: int) -> None:

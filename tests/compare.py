@@ -16,6 +16,7 @@ import journals
 import operations
 import pair_checks
 import protocol
+import row_checks
 from checks import Difference, check_esri_text, check_grid_file, check_replies
 from generator import Test
 from grid_inputs import GridInput
@@ -37,6 +38,10 @@ MINIMA = {
     "grid cells": 10_000,
     "esri texts by program": LEAST,
     "esri cells": 10_000,
+    "rows": 1_500,
+    "row cells": 5_000,
+    "held row cells": 4_000,
+    "held row cells that are free": LEAST,
     "pairs": LEAST,
     "pair answers": 1_500,
     "pair answers that are free": 500,
@@ -69,23 +74,28 @@ def check_journal(journal: Journal, command: Command, seconds: int, counts: Coun
     """Gives what the program wrote."""
     run = run_program(command, journals.encode(journal), seconds)
     check_replies(journal, run, counts)
+    row_checks.check_rows(journal, run, counts)
     return run
 
 
 def shorten(
     journal: Journal, difference: Difference, command: Command, seconds: int
 ) -> tuple[Journal, Difference]:
-    """The calls up to the failing one; without those that alter nothing, if it fails then too."""
+    """The calls up to the failing one; without those that only ask, if it fails then too.
+
+    What a row is held against can be a grid, so that these are tried to be kept as well.
+    """
     if difference.at is None:
         return journal, difference
-    upto = Journal(journal.kind, journal.calls[: difference.at + 1])
-    altering = [call for call in upto.calls[:-1] if call.operation.alters]
-    short = Journal(journal.kind, altering + upto.calls[-1:])
-    try:
-        check_journal(short, command, seconds, Counter())
-    except Difference as again:
-        return short, again
-    return upto, difference
+    *before, failing = journal.calls[: difference.at + 1]
+    for kept in ("", "g"):
+        needed = [call for call in before if call.operation.followed or call.letter in kept]
+        short = Journal(journal.kind, [*needed, failing])
+        try:
+            check_journal(short, command, seconds, Counter())
+        except Difference as again:
+            return short, again
+    return Journal(journal.kind, [*before, failing]), difference
 
 
 def keep(data: bytes, suffix: str) -> str:
@@ -123,10 +133,10 @@ def check_pair(pair: Pair, command: Command, seconds: int, counts: Counter[str])
 def shorten_pair(
     pair: Pair, difference: Difference, command: Command, seconds: int
 ) -> tuple[Pair, Difference]:
-    """The one question; without calls that alter nothing, if the two journals differ then too."""
+    """The one question; without calls that only ask, if the two journals differ then too."""
     assert difference.at is not None
     upto = pair._replace(asked=pair.asked[: difference.at + 1])
-    one, other = ([call for call in calls if call.operation.alters] for calls in pair[1:3])
+    one, other = ([call for call in calls if call.operation.followed] for calls in pair[1:3])
     asked = upto.asked[-1:]
     for short in (Pair(pair.kind, one, other, asked), pair._replace(asked=asked)):
         try:

@@ -86,13 +86,15 @@ def check_grid(grid: Grid) -> None:
         raise Refused(7)
 
 
+def row_locations(grid: Grid, row: int) -> list[Location]:
+    """Those of one row, x ascending; rows are counted from 0, y ascending."""
+    y = grid.y0 + row * grid.step_y
+    return [(grid.x0 + column * grid.step_x, y) for column in range(grid.columns)]
+
+
 def grid_locations(grid: Grid) -> list[Location]:
-    """Row by row, y ascending, x ascending within a row."""
-    return [
-        (grid.x0 + column * grid.step_x, grid.y0 + row * grid.step_y)
-        for row in range(grid.rows)
-        for column in range(grid.columns)
-    ]
+    """Row by row."""
+    return [location for row in range(grid.rows) for location in row_locations(grid, row)]
 
 
 def grid_file_length(grid: Grid) -> int:

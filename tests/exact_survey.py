@@ -4,6 +4,7 @@ from __future__ import annotations
 
 from collections.abc import Iterable
 from struct import unpack
+from typing import NamedTuple
 
 import exact
 import exact_esri
@@ -63,14 +64,24 @@ def found(lookup: Lookup, neighbours: tuple[exact.Neighbour, ...] = ()) -> Outco
     return Outcome((answer(lookup), len(lookup.neighbours), lookup.radius), neighbours)
 
 
+class Filling(NamedTuple):
+    """A grid being filled: the survey as it was at the begin, and the row to come next."""
+
+    begun: Survey
+    grid: Grid
+    row: int
+
+
 class Survey:
     """The points present; a call either acts or raises Refused and alters nothing.
 
     A call's method bears its name in operations.TABLE. What a call lends is told by its length.
+    Beside the points there is at most one grid being filled.
     """
 
     def __init__(self) -> None:
         self.metric = metric.PLAIN
+        self.filling: Filling | None = None
         self.replace([])
 
     def replace(self, points: Iterable[tuple[int, int, int]]) -> None:
@@ -82,6 +93,13 @@ class Survey:
         self.ordered: list[Point] | None = None
         self.ends: Ends | None = None
         self.lookups: dict[Location, Lookup] = {}
+
+    def copy(self) -> Survey:
+        """Another survey with the same points and no grid being filled."""
+        other = Survey()
+        other.metric = self.metric
+        other.replace(self.points())
+        return other
 
     def points(self) -> list[Point]:
         """The points present, by ascending x, then y."""
@@ -105,6 +123,9 @@ class Survey:
     def exact_cells(self, grid: Grid) -> list[Lookup]:
         return [self.exact_lookup(x, y) for x, y in exact_files.grid_locations(grid)]
 
+    def exact_row(self, grid: Grid, row: int) -> list[Lookup]:
+        return [self.exact_lookup(x, y) for x, y in exact_files.row_locations(grid, row)]
+
     def check_taken(self, x: int, y: int) -> None:
         if (x, y) not in self.values:
             raise Refused(4)
@@ -112,6 +133,12 @@ class Survey:
     def check_any(self) -> None:
         if not self.values:
             raise Refused(6)
+
+    def check_filling(self) -> Filling:
+        """The grid being filled, which has a row to come."""
+        if self.filling is None or self.filling.row == self.filling.grid.rows:
+            raise Refused(17)
+        return self.filling
 
     # The calls.
 
@@ -189,6 +216,20 @@ class Survey:
         outcome = Outcome(filled=exact_esri.text(grid, cells), measured=True)
         check_lent(lent, outcomes.filled_units(outcome)[0])
         return outcome
+
+    def begin_grid(self, grid: Grid) -> Outcome:
+        exact_files.check_grid(grid)
+        self.check_any()
+        self.filling = Filling(self.copy(), grid, 0)
+        return ACCEPTED
+
+    def next_row(self, lent: int) -> Outcome:
+        """The row's number and its cells, of the survey as it was at the begin."""
+        begun, grid, row = filling = self.check_filling()
+        check_lent(lent, grid.columns)
+        cells = tuple(map(answer, begun.exact_row(grid, row)))
+        self.filling = filling._replace(row=row + 1)
+        return Outcome((row, len(cells)), cells)
 
 
 def program_input(data: bytes) -> tuple[Survey, Grid]:

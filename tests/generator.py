@@ -14,6 +14,7 @@ import journals
 import mixed_calls
 import pair_journals
 import polygon_journals
+import row_journals
 from grid_inputs import GridInput
 from journals import Journal
 from pair_journals import Pair, Parts
@@ -38,6 +39,9 @@ JOURNALS = (
     ("esri texts", esri_journals.esri_journal, 90),
     ("widest esri texts", esri_journals.widest_esri_journal, 2),
     ("free lengths", esri_journals.free_journal, 40),
+    ("rows", row_journals.row_journal, 96),
+    ("free rows", row_journals.free_row_journal, 90),
+    ("widest rows", row_journals.widest_row_journal, 2),
 )
 GRID_INPUTS = (
     ("whole case", grid_inputs.whole_case, 2),
@@ -67,7 +71,7 @@ def make_test(rng: Random, kind: str, maker: Maker, index: int) -> Test:
         return GridInput(kind, made, maker is grid_inputs.damaged_input)
     if isinstance(made, tuple):
         return Pair(kind, *made)
-    bad = bad_journals.bad_end(rng) if maker is bad_journals.bad_journal else b""
+    bad = bad_journals.bad_end(rng, index) if maker is bad_journals.bad_journal else b""
     return Journal(kind, made, bad)
 
 

@@ -14,16 +14,30 @@ import protocol
 import surveys
 from exact import Point
 from exact_survey import Survey
-from grids import improper_grid, like_grid, like_grid_near, proper_grid, unlike_grid
+from grids import (
+    grid_near,
+    improper_grid,
+    like_grid,
+    like_grid_near,
+    proper_grid,
+    unlike_grid,
+)
 from metric import Location
 from protocol import Call
-from random_calls import ANY_SURVEY, esri_call, grid_calls, lent_about, lookup_call
+from random_calls import (
+    ANY_SURVEY,
+    esri_call,
+    grid_calls,
+    lent_about,
+    lookup_call,
+    row_call,
+)
 
 WRONG_VALUES = (-129, 128, 255, 256, 300, -256, 2**31 - 1, -(2**31))
 
 
 class Scene(NamedTuple):
-    """The locations that recur, and the survey as the calls so far leave it."""
+    """The locations that recur, and the survey, with its grid, as the calls so far leave it."""
 
     pool: Sequence[Point]
     survey: Survey
@@ -97,6 +111,15 @@ def mixed_esri(rng: Random, scene: Scene) -> Call:
     return esri_call(rng, scene.survey, rng.choice(near + others))
 
 
+def mixed_begin(rng: Random, scene: Scene) -> Call:
+    near = [grid_near(rng, scene.pool) for _ in range(2)]
+    return Call("b", rng.choice([*near, proper_grid(rng), improper_grid(rng)]))
+
+
+def mixed_row(rng: Random, scene: Scene) -> Call:
+    return row_call(rng, scene.survey)
+
+
 class Generator(NamedTuple):
     """How often a call comes, what makes it, and whether only every other list has it."""
 
@@ -117,14 +140,16 @@ GENERATORS = {
     "f": Generator(1, mixed_grid),
     "e": Generator(4, mixed_ends),
     "p": Generator(2, mixed_esri),
+    "b": Generator(2, mixed_begin),
+    "r": Generator(5, mixed_row),
     "k": Generator(1, mixed_clear, seldom=True),
 }
 
 
 def follow(survey: Survey, call: Call) -> None:
-    """Do what a call does to the points present."""
+    """Do what a call does to the points present and to the grid being filled."""
     with suppress(exact.Refused):
-        if call.operation.alters:
+        if call.operation.followed:
             protocol.perform(survey, call)
 
 
@@ -135,7 +160,9 @@ def calls_on_none(rng: Random) -> list[Call]:
     calls += [Call(letter, (*improper_grid(rng), 0)) for letter in "gfp"]
     calls += [Call(letter, (*proper_grid(rng), lent)) for letter in "gf" for lent in (0, 4096)]
     calls += [Call("p", (*maker(rng), 0)) for maker in (like_grid, unlike_grid)]
-    return rng.sample(calls, 4)
+    calls += [Call("b", maker(rng)) for maker in (improper_grid, proper_grid)]
+    calls += [Call("r", (lent,)) for lent in (0, 64)]
+    return rng.sample(calls, 5)
 
 
 def mixed_journal(rng: Random, index: int) -> list[Call]:

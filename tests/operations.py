@@ -45,6 +45,7 @@ class Operation(NamedTuple):
     """A call; `counted` is the name under which its accepted calls are counted, if they are.
 
     What a call fills is bytes, cells or records; of bytes, `text` tells that they are lines.
+    An accepted call `alters` the points present, or `fills`: it alters the grid being filled.
     """
 
     letter: str
@@ -53,6 +54,7 @@ class Operation(NamedTuple):
     reply: str
     lent: Lent | None = None
     alters: bool = False
+    fills: bool = False
     file: bool = False
     text: bool = False
     counted: str = ""
@@ -61,6 +63,11 @@ class Operation(NamedTuple):
     def method(self) -> str:
         """The exact survey's method for it."""
         return self.name.replace(" ", "_")
+
+    @property
+    def followed(self) -> bool:
+        """Whether what later calls give can hang on it; all other calls only ask."""
+        return self.alters or self.fills
 
     @property
     def layout(self) -> str:
@@ -87,5 +94,7 @@ TABLE = (
     Operation("f", "grid file", (SIX,), "wrote", BYTES, counted="grid files"),
     Operation("e", "read ends", (), "ends", counted="ends"),
     Operation("p", "esri text", (SIX,), "wrote", BYTES, text=True, counted="esri texts"),
+    Operation("b", "begin grid", (SIX,), "ok", fills=True, counted="begins"),
+    Operation("r", "next row", (), "row", CELLS, fills=True, counted="rows"),
 )
 BY_LETTER = {operation.letter: operation for operation in TABLE}

@@ -42,7 +42,8 @@ def lines_asked(pair: Pair, run: Run) -> list[list[str]]:
 
 
 def is_grid(call: Call) -> bool:
-    return call.operation.fields == (SIX,)
+    """Whether a call gives the cells of a grid, which a begin does not."""
+    return call.operation.fields == (SIX,) and call.operation.lent is not None
 
 
 def locations_asked(call: Call) -> list[Location]:

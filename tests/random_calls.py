@@ -1,4 +1,4 @@
-"""Makes random calls: lookups, grids, texts, and those after which given points are present."""
+"""Makes random calls: lookups, grids, rows, texts, and those that bring given points."""
 
 from __future__ import annotations
 
@@ -80,6 +80,14 @@ def grid_calls(rng: Random, numbers: Numbers) -> list[Call]:
     grid = Call("g", (*numbers, lent_about(rng, cells, CELLS.most)))
     file = Call("f", (*numbers, lent_about(rng, 2 * cells + 20, BYTES.most)))
     return rng.sample((grid, file), rng.choice((1, 2, 2)))
+
+
+def row_call(rng: Random, survey: Survey) -> Call:
+    """The next row, lent about what it needs, at times the most; with none to come, any number."""
+    columns = survey.filling.grid.columns if survey.filling else rng.randint(0, 9)
+    if rng.randrange(30) == 0:
+        return Call("r", (CELLS.most,))
+    return Call("r", (lent_about(rng, columns, CELLS.most),))
 
 
 def esri_length(survey: Survey, numbers: Numbers) -> int:

@@ -17,6 +17,7 @@ from protocol import Call
 from random_calls import with_ends
 
 GRID = (0, 0, 1, 1, 2, 1)
+IMPROPER = (0, 0, 0, 1, 2, 1)
 PAIR = damage.records_of([(3, 0, 0), (6, 0, 90)])
 # A curve: many of the points are corners of the polygon.
 FULL = [(16 * i, i * i // 16, i - 128) for i in range(256)]
@@ -115,11 +116,11 @@ def grids() -> list[Call]:
 
 def esri_texts() -> list[Call]:
     """7, 16, 6 and 8 in this order, the tail of longer bytes; signs, 0, the highest y first."""
-    unlike, improper = (0, 0, 1, 2, 1, 1), (0, 0, 0, 1, 2, 1)
-    calls = [Call("k"), *calls_of("p", (*improper, 3), (*unlike, 3), (*GRID, 3), (*GRID, 0))]
+    unlike = (0, 0, 1, 2, 1, 1)
+    calls = [Call("k"), *calls_of("p", (*IMPROPER, 3), (*unlike, 3), (*GRID, 3), (*GRID, 0))]
     calls += [Call("a", (3, 0, -7))]
     calls += calls_of("p", (*GRID, 94), (*GRID, 93), (*GRID, 97), (*GRID, 0))
-    calls += calls_of("p", (*improper, 2), (*unlike, 2), (4095, 0, 1, 2, 2, 1, 2))
+    calls += calls_of("p", (*IMPROPER, 2), (*unlike, 2), (4095, 0, 1, 2, 2, 1, 2))
     calls += calls_of("p", (4095, 4095, 65_535, 65_535, 1, 1, 92), (0, 0, 1, 65_535, 1, 1, 92))
     calls += [Call("k"), *calls_of("a", (0, 0, 0), (10, 0, -1), (0, 10, 127), (10, 10, -128))]
     calls += calls_of("p", (0, 0, 10, 10, 2, 2, 122), (0, 0, 5, 5, 3, 3, 200))
@@ -156,9 +157,51 @@ def far_off() -> list[Call]:
     return [*calls, Call("c", (*FAR_OFF, -126)), *asked]
 
 
+def fill(*lents: int) -> list[Call]:
+    """Rows, each lent so many cells."""
+    return [Call("r", (lent,)) for lent in lents]
+
+
+def begins() -> list[Call]:
+    """17 with none begun and after the last row; 7, 6; 8, and the row is still the next."""
+    calls = [Call("k"), *fill(0, 2), *calls_of("b", IMPROPER, GRID), *fill(2)]
+    calls += [Call("a", (3, 0, -7)), *fill(2), Call("b", GRID), *fill(1, 0, 4, 2, 0)]
+    calls += [*calls_of("b", IMPROPER, (0, 0, 1, 1, 2, 65)), *fill(2), Call("b", GRID), *fill(2, 2)]
+    return [*calls, Call("k"), Call("b", GRID), *fill(2)]
+
+
+def edits_between_rows() -> list[Call]:
+    """Every edit, accepted and refused, and every question; begins that are refused."""
+    six = (0, 0, 3, 1, 3, 6)
+    calls = [Call("k"), *calls_of("a", (3, 0, 0), (6, 0, 90)), Call("g", (*six, 18))]
+    calls += [Call("b", six), *calls_of("c", (6, 0, -90), (9, 9, 1)), *fill(3), Call("b", IMPROPER)]
+    calls += [*calls_of("a", (0, 1, 127), (0, 1, 5), (4096, 0, 1)), *fill(2, 5), Call("q", (0, 1))]
+    calls += [*calls_of("d", (3, 0), (3, 0)), *fill(3)]
+    calls += [Call("k"), Call("b", GRID), Call("e"), *fill(3)]
+    calls += [*loads(damage.assemble(b"", PAIR), bytes(12)), Call("g", (*GRID, 2)), *fill(0, 3)]
+    calls += [Call("n", (0, 0, 10)), Call("f", (*GRID, 24)), Call("p", (*GRID, 97))]
+    return [*calls, Call("w", (22,)), *fill(3, 3)]
+
+
+def begun_anew() -> list[Call]:
+    """In the middle, with the same six numbers and with others; of the survey as it then is."""
+    six, within = (0, 0, 3, 3, 3, 2), (3, 0, 3, 3, 1, 3)
+    calls = [Call("k"), *calls_of("a", (0, 0, 0), (9, 0, 90)), Call("b", six), *fill(3)]
+    calls += [Call("c", (0, 0, 9)), Call("b", six), *fill(3), Call("b", within), *fill(1, 1)]
+    return [*calls, Call("d", (9, 0)), Call("b", six), Call("d", (0, 0)), *fill(3, 3, 3)]
+
+
+def full_rows() -> list[Call]:
+    """64 columns of 256 points; R0 is that of the begin, not of the file that comes then."""
+    calls = [*loads(full_file()), Call("b", (500, 3, 3, 16, 64, 64)), *fill(63, 64)]
+    calls += [Call("a", (1, 1, 1)), Call("d", FULL[255][:2]), Call("a", (1, 1, 1))]
+    return [*calls, *loads(damage.assemble(b"", PAIR)), *fill(65), Call("e")]
+
+
 def make() -> journals.Journal:
     calls = [Call("e")] + on_none() + on_two() + files() + on_full() + rows() + within_radius()
     calls += grids() + esri_texts() + ends() + polygon() + far_off()
+    calls += begins() + edits_between_rows() + begun_anew() + full_rows()
     return journals.Journal("stored", calls, BAD_END)
 
 

@@ -10,6 +10,7 @@ import tempfile
 import unittest
 from collections import Counter
 from collections.abc import Callable, Iterator
+from functools import cache
 from random import Random
 from unittest import mock
 
@@ -25,6 +26,7 @@ import operations
 import pair_checks
 import permitted
 import protocol
+import row_checks
 import stand_ins
 from exact import Lookup
 from fakes import FAULTS
@@ -43,7 +45,7 @@ FAKES = str(pathlib.Path(__file__).with_name("fakes.py"))
 SOUND_PART, FAULTY_PART = 16, 4
 SECONDS = 20
 SHORT_SECONDS = 2
-FEWEST_FAULTS = 163
+FEWEST_FAULTS = 236
 ESRI_KINDS = ("esri texts", "widest esri texts", "free lengths")
 ENDS_KINDS = ("ends", "polygon")
 # What each call can be refused with.
@@ -58,6 +60,8 @@ REFUSALS = {
     "grid": (7, 6, 8),
     "grid file": (7, 6, 8),
     "esri text": (7, 16, 6, 8),
+    "begin grid": (7, 6),
+    "next row": (17, 8),
 }
 
 
@@ -69,6 +73,7 @@ def programs(fault: str | None = None) -> compare.Programs:
     return compare.Programs(*(command(name, fault) for name in compare.Programs._fields))
 
 
+@cache
 def part_of_run(divisor: int) -> list[Test]:
     return generator.make(Random(compare.SEED), divisor)
 
@@ -201,6 +206,7 @@ class FreeRounding(unittest.TestCase):
                     runs = [Run(stand_ins.replay(journals.encode(each)), "") for each in listed]
                 for each, run in zip(listed, runs):
                     checks.check_replies(each, run, Counter())
+                    row_checks.check_rows(each, run, Counter())
                 if isinstance(test, Pair):
                     pair_checks.check_pair(test, runs, Counter())
             else:
@@ -306,7 +312,8 @@ class Generator(unittest.TestCase):
                     yield survey, call, cases
 
     def test_a_seed_gives_the_same_tests(self) -> None:
-        self.assertEqual(part_of_run(FAULTY_PART), part_of_run(FAULTY_PART))
+        again = generator.make(Random(compare.SEED), FAULTY_PART)
+        self.assertEqual(again, part_of_run(FAULTY_PART))
 
     def test_every_refusal_is_met_in_journals(self) -> None:
         met = Counter()
@@ -411,7 +418,7 @@ class Generator(unittest.TestCase):
             survey = exact_survey.Survey()
             for call in journal.calls if journal.kind in ENDS_KINDS else []:
                 accepted = permitted.expected(survey, call)[0].outcome is not None
-                asks = call.letter != "e" and not call.operation.alters
+                asks = call.letter != "e" and not call.operation.followed
                 self.assertFalse(accepted and asks, protocol.describe(call))
 
     def test_ends_move_and_stay(self) -> None:

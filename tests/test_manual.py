@@ -1,4 +1,4 @@
-"""Holds the pages of man/ to what the command shepard takes and says, and to what the programs say of failed reads."""
+"""Holds the pages of man/ to what the command shepard takes and says, to the calls of a journal, and to what the programs say of failed reads."""
 
 from __future__ import annotations
 
@@ -8,6 +8,9 @@ from pathlib import Path
 from typing import NamedTuple
 
 import test_texts
+from exact import LAST_REFUSAL
+from operations import BY_LETTER, SIX, TABLE
+from test_compare import REFUSALS
 
 ROOT = Path(__file__).parent.parent
 TOOL = ROOT / "rust" / "tool" / "src"
@@ -133,6 +136,30 @@ class Manual(unittest.TestCase):
         self.assertEqual(len(told), 2)
         for name in PROGRAMS:
             self.assertEqual(missing(told, part(read(name), ".SH DIAGNOSTICS")), [], name)
+
+    def test_every_call_of_a_journal(self) -> None:
+        page = part(read("shepard_replay"), ".SH DESCRIPTION")
+        told = dict(re.findall(r"^\.T[PQ]\n\.B (\w)\n((?:(?!\.T[PQ]|\.PP).*\n)*)", page, re.M))
+        self.assertEqual(set(told), set(BY_LETTER))
+        for letter, text in told.items():
+            shown, operation = plain(text), BY_LETTER[letter]
+            reply = "as q" if letter == "n" else operation.reply
+            self.assertRegex(shown, rf"Replies {reply}\b")
+            self.assertEqual("the six numbers (2 each)" in shown, operation.fields == (SIX,), letter)
+            self.assertEqual("lent" in shown, operation.lent is not None, letter)
+            if operation.lent:
+                self.assertIn(f"are lent, at most {operation.lent.most:,}.", shown)
+
+    def test_every_refusal_of_a_journal(self) -> None:
+        """With the calls that give it."""
+        page = part(read("shepard_replay"), ".SH REFUSALS")
+        told = re.findall(r"^\.T[PQ]\n(\d+)\n.*: ([\w, ]+)$", page, re.M)
+        letters = {operation.name: operation.letter for operation in TABLE}
+        given = {number: set() for number in range(1, LAST_REFUSAL + 1)}
+        for name, numbers in REFUSALS.items():
+            for number in numbers:
+                given[number].add(letters[name])
+        self.assertEqual({int(number): set(each.split(", ")) for number, each in told}, given)
 
     def test_the_pages_name_one_another(self) -> None:
         names = ("shepard", *PROGRAMS)

@@ -18,7 +18,7 @@ from operations import BY_LETTER
 from programs import Run
 
 FAKES = str(Path(__file__).with_name("fakes.py"))
-FEWEST_ROWS = 840
+FEWEST_ROWS = 1000
 TWO = "two points\nadd 3 0 0: ok\nadd 6 0 90: ok\n"
 LOOKUP = "lookup 0 0: found 4608 2 0\n"
 HEADER = "  ncols 1\n  nrows 1\n  xllcenter 3\n  yllcenter 0\n  cellsize 1\n  NODATA_value -9999\n"
@@ -91,6 +91,18 @@ class Rows(unittest.TestCase):
         self.assert_wrong(refused, "came   left 80*a5")
         self.assertEqual(vectors.differences(TWO + refused + "  left 80*a5\n", []), [])
 
+    def test_rows_of_a_grid(self) -> None:
+        begin = "begin grid 3 0 3 1 2 2: ok\n"
+        row = "next row into 3: row 0 2, list 0 23040 -23131\n"
+        self.assertEqual(vectors.differences(TWO + begin + row, []), [])
+        self.assert_wrong(row, "came next row into 3: refused 17, list -23131 -23131 -23131")
+        self.assert_wrong(begin + row.replace("row 0", "row 1"), "came next row into 3: row 0 2")
+        self.assert_wrong(begin + row.replace("0 23040", "23040 0"), "list 0 23040 -23131")
+        self.assert_wrong(begin + "next row into 1: refused 8, list 0\n", "list -23131")
+        self.assert_wrong("begin grid 3 0 0 1 2 2: ok\n", "came begin grid 3 0 0 1 2 2: refused 7")
+        self.assertEqual(vectors.differences(TWO + begin + "\nthen more\n" + row, []), [])
+        self.assert_wrong(begin + "\nanother\n" + row, "refused 17")
+
     def test_another_survey(self) -> None:
         """A section without "then" starts from a fresh survey."""
         self.assert_wrong("\nanother\n" + LOOKUP, "came lookup 0 0: refused 6")
@@ -122,6 +134,15 @@ class Rows(unittest.TestCase):
             "esri text 0 0 1 1 1 into 2",
             "esri text 0 0 1 1 1 1",
             "esri text 0 0 1 1 1 1 into 65537",
+            "begin 0 0 1 1 1 1",
+            "begin grid 0 0 1 1 1",
+            "begin grid 0 0 1 1 1 1 into 2",
+            "begin grid 0 0 1 1 1 65536",
+            "next row",
+            "next row 1",
+            "next row into",
+            "next row 1 into 2",
+            "next row into 8193",
         )
         for left in wrong:
             with self.subTest(left=left):

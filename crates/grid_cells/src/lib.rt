@@ -24,7 +24,7 @@ fn look(s: Survey, g: Grid, c: usize, r: usize) -> Answer
 }
 
 // The cells of row r, x ascending.
-fn fill_row(s: Survey, g: Grid, r: usize, out: &mut [i16])
+pub fn fill_row(s: Survey, g: Grid, r: usize, out: &mut [i16])
     requires { ⌜ (proper (gridOf g) ≡ true) × (0 < length (stateOf s .contents .points)) × (r < g .rows) × (length (now out) ≡ g .columns) ⌝ }
     ensures { λ _. ⌜ now (out .exit) ≡ row (stateOf s) (gridOf g) r ⌝ }
     ensures { λ _. ⌜ RowRight (stateOf s) (gridOf g) r ⌝ }

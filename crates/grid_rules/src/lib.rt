@@ -94,7 +94,8 @@ fn empty_refusal(present: usize) -> u8
     0
 }
 
-fn room_refusal(lent: usize, needed: usize) -> u8
+// Refusal 8, or 0.
+pub fn room_refusal(lent: usize, needed: usize) -> u8
     ensures { λ r. ⌜ r ≡ enough lent needed ⌝ }
 {
     if lent < needed {
@@ -104,7 +105,7 @@ fn room_refusal(lent: usize, needed: usize) -> u8
 }
 
 // The first that is not 0.
-fn first(a: u8, b: u8, c: u8) -> u8
+pub fn first(a: u8, b: u8, c: u8) -> u8
     ensures { λ r. ⌜ r ≡ cond (eqb a 0) (cond (eqb b 0) c b) a ⌝ }
 {
     if a != 0 {

@@ -32,7 +32,7 @@ pub replied : (c : Call) (s : Survey) (r : Reply) → Replies c s r → (q : Con
 replied c s r p q e = p .state ∙ ap (edited c) e ∙ edited-settled c q
 
 -- one call leaves in the survey what the model says, and nothing that is read otherwise than it stands
-made : {c : Call} {s t : Survey} → Makes c s t → (q : Contents) → stateOf s ≡ settled q → stateOf t ≡ settled (after c q)
+pub made : {c : Call} {s t : Survey} → Makes c s t → (q : Contents) → stateOf s ≡ settled q → stateOf t ≡ settled (after c q)
 made (add s x y z r p) = replied _ s r p
 made (change s x y z r p) = replied _ s r p
 made (drop s x y r p) = replied _ s r p

@@ -63,7 +63,7 @@ module _ (s : State) (g : Grid) where
   unfolding row
   length-row r = length-tabulate (λ c. answer s (cellLocation g c r)) (g .columns)
 
-  length-rows : (n : ℕ) → length (rowsOf s g n) ≡ g .columns * n
+  pub length-rows : (n : ℕ) → length (rowsOf s g n) ≡ g .columns * n
   unfolding rowsOf
   length-rows zero = omega arith
   length-rows (suc n) = omega (arith, length-append (rowsOf s g n) (row s g n), length-rows n, length-row n)

@@ -42,6 +42,7 @@ pub mod HistoryInvariant
 pub mod DropLaws
 pub mod ExtentLaws
 pub mod GridLaws
+pub mod FillingLaws
 pub mod GridReadLaws
 pub mod GridBack
 pub mod DecimalLaws

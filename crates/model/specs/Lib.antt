@@ -21,6 +21,8 @@ pub mod Calls
 pub mod Invariant
 pub mod FarOff
 pub mod Grid
+pub mod Filling
+pub mod RowCalls
 pub mod GridFile
 pub mod GridReading
 pub mod Decimal

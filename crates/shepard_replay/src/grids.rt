@@ -11,7 +11,7 @@ use grid_rules::Grid;
 use survey::Survey;
 
 // The six numbers, two bytes each.
-fn grid_of(a: Arguments) -> Grid {
+pub fn grid_of(a: Arguments) -> Grid {
     Grid {
         x0: a.word(0),
         y0: a.word(2),

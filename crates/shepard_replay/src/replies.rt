@@ -1,6 +1,7 @@
 // The line that answers a call.
 use crate::show;
 use grid::Filled;
+use grid_rows::RowAnswer;
 use survey::Answer;
 use survey::Extent;
 use survey_file::Written;
@@ -11,7 +12,7 @@ pub fn refused(no: u8) {
     print::line_feed();
 }
 
-// For a call that edits; 0 is no refusal.
+// For a call that edits or begins; 0 is no refusal.
 pub fn edited(refusal: u8) {
     if refusal == 0 {
         print::word(b"ok\n");
@@ -77,5 +78,21 @@ pub fn filled(f: Filled) {
     match f {
         Filled::Cells(n) => counted(b"cells", n),
         Filled::Refused(no) => refused(no),
+    }
+}
+
+// A row's index, and how many cells it has.
+fn filled_row(index: usize, n: usize) {
+    print::word(b"row ");
+    print::number(index as u64);
+    print::space();
+    print::number(n as u64);
+    print::line_feed();
+}
+
+pub fn row(a: RowAnswer) {
+    match a {
+        RowAnswer::Row(index, n) => filled_row(index, n),
+        RowAnswer::Refused(no) => refused(no),
     }
 }

@@ -1,4 +1,5 @@
-// What a call leaves: the survey, and whether the next call is read.
+// What a call leaves: the survey, whether the next call is read, and the grid being filled.
+use grid_rows::Filling;
 use survey::Survey;
 
 pub struct Step {
@@ -24,4 +25,17 @@ pub fn ended(s: Survey) -> Step {
 pub fn bad_journal(s: Survey) -> Step {
     print::word(b"bad journal\n");
     ended(s)
+}
+
+// What a call leaves, and beside it the grid being filled.
+pub struct Turn {
+    pub step: Step,
+    pub filling: Filling,
+}
+
+pub fn beside(s: Step, f: Filling) -> Turn {
+    Turn {
+        step: s,
+        filling: f,
+    }
 }

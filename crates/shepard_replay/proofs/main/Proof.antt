@@ -4,19 +4,22 @@ use Rattle.shepard_replay.proofs.main.Statement.{statement}
 use Rattle.shepard_replay.proofs.main.Tie as tie
 
 abbrev Inv-loop : tie.InvT-loop
-Inv-loop s₀ going₀ turns₀ s going turns = Unit {0}
+Inv-loop s₀ f₀ going₀ turns₀ s f going turns = Unit {0}
 
 abbrev μ-loop : tie.MeasureT-loop
-μ-loop s₀ going₀ turns₀ s going turns = turns
+μ-loop s₀ f₀ going₀ turns₀ s f going turns = turns
 
 fresh-requires : tie.Need-fresh-requires Inv-loop μ-loop
 fresh-requires c κs = tt
 
+none-requires : tie.Need-none-requires Inv-loop μ-loop
+none-requires c κs = tt
+
 loop-holds : tie.Need-loop-holds Inv-loop μ-loop
 loop-holds c = tt
 
-run-call-requires : tie.Need-run-call-requires Inv-loop μ-loop
-run-call-requires c κs = tt
+run-turn-requires : tie.Need-run-turn-requires Inv-loop μ-loop
+run-turn-requires c κs = tt
 
 sub-turns : tie.Need-sub-turns Inv-loop μ-loop
 sub-turns c = omega arith
@@ -40,8 +43,9 @@ main-spec =
     Inv-loop
     μ-loop
     fresh-requires
+    none-requires
     loop-holds
-    run-call-requires
+    run-turn-requires
     sub-turns
     loop-less
     loop-again

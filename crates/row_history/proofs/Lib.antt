@@ -1,0 +1,4 @@
+-- The claim over every list of calls, begins and rows, and the facts that it rests on.
+pub mod CellsAreRight
+pub mod Rows
+pub mod Longer

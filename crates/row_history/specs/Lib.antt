@@ -1,0 +1,3 @@
+-- The definitions that the theorems of this crate cite.
+pub mod RowRuns
+pub mod ClaimRows
