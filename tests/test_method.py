@@ -375,6 +375,37 @@ class NoSay(unittest.TestCase):
         self.assertIn("would give 11 where that value is -126", prose(self.TITLE))
 
 
+class Rows(unittest.TestCase):
+    """The example of a grid that is filled while the survey is cleared."""
+
+    TITLE, GRID = "A grid filled row by row", exact_files.Grid(3, 0, 3, 1, 2, 2)
+
+    def setUp(self) -> None:
+        self.survey = exact_survey.Survey()
+        for point in re.findall(r"\((\d+), (\d+)\) with (?:value )?(\d+)", prose(self.TITLE)):
+            self.survey.add(*map(int, point))
+
+    def row(self, lent: int) -> list[int]:
+        filled = self.survey.next_row(lent).filled
+        self.assertEqual({len(options(each)) for each in filled}, {1})
+        return [preferred(each) for each in filled]
+
+    def test_rows(self) -> None:
+        self.survey.begin_grid(self.GRID)
+        first = self.row(2)
+        self.survey.clear()
+        for call in (lambda: self.survey.lookup(3, 0), lambda: self.survey.begin_grid(self.GRID)):
+            with self.assertRaises(exact.Refused) as caught:
+                call()
+            self.assertEqual(caught.exception.number, 6)
+        rows = [f"{one:,} and {other:,}" for one, other in (first, self.row(3))]
+        self.assertIn("The rows are {}, then {}.".format(*rows), prose(self.TITLE))
+        self.assertIn(f"is row 1, {rows[1]},", prose(self.TITLE))
+        with self.assertRaises(exact.Refused) as caught:
+            self.row(2)
+        self.assertIn(f"A further row is {caught.exception.number}.", prose(self.TITLE))
+
+
 class Bytes(unittest.TestCase):
     def test_survey_file(self) -> None:
         (file,) = hexadecimal("The survey file")

@@ -22,7 +22,7 @@ pub data Makes : Call → Survey → Survey → Type 0 where
   drop : (s : Survey) (x y : ℕ) (r : Reply) → drop-of.Post tt (s, (x, (y, tt))) r (s, (x, (y, tt))) → Makes (Drop x y) s (r .survey)
   clear : (s : Survey) (r : Reply) → clear-of.Post tt (s, tt) r (s, tt) → Makes Clear s (r .survey)
   load : (s : Survey) (κs : Lfts 1) (file : RefT (List ℕ)) (r : Reply) → load-of.Post κs (s, (file, tt)) r (s, (file, tt)) → Makes (Load (now file)) s (r .survey)
-  -- a lookup, a grid, a file written: it gets the survey by value, and its caller's stays, whatever it is handed and gives
+  -- a lookup, a grid, a begin, a row, a file written: it gets the survey by value, and its caller's stays, whatever it is handed and gives
   asks : (s : Survey) → Makes Ask s s
 
 -- the survey s is what the calls cs, made one after the other on a fresh survey, left

@@ -11,7 +11,7 @@ use Rattle.model.specs.Order.{insert}
 use Rattle.model.specs.Refusals.{onDomain, withinRange}
 use Rattle.model.specs.SurveyFile.{fileRefusal, filePoints}
 
--- a call with what it is handed: x, y and z, or a file's bytes. Ask is every call that only asks, as a lookup, a grid or a file written: whatever it is handed, it leaves what is present
+-- a call with what it is handed: x, y and z, or a file's bytes. Ask is every call that only asks, as a lookup, a grid, a row or a file written: whatever it is handed, it leaves what is present
 pub data Call : Type 0 where
   Add : ℕ → ℕ → ℤ → Call
   Change : ℕ → ℕ → ℤ → Call

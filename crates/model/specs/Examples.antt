@@ -1,7 +1,8 @@
 -- Closed cases that hold the definitions to documents 01 and 02: the starred rows of the bench table, `closed-rows`; rows of our own that these cannot replace,
--- `further`, `far-off`, `polygons`, `calls`, `kept`, `lent`, `files`, `refusals`, `grids`, `rows`, `readings`, `decimals`, `decimals-read`, `cell-texts` and `texts`; and the whole case, as a grid file and as an Esri ASCII grid.
+-- `further`, `far-off`, `polygons`, `calls`, `kept`, `lent`, `files`, `refusals`, `grids`, `rows`, `rows-between`, `readings`, `decimals`, `decimals-read`, `cell-texts` and `texts`; and the whole case, as a grid file and as an Esri ASCII grid.
 use Prim.Native.Nat.{ℕ, _+_}
 use mathlib.Core.Path.{_≡_, refl}
+use native.Mathlib.Omega.{arith}
 use mathlib.Core.Bool.{true, false, true≢false}
 use mathlib.Core.Logic.{inl, inr, ⊎-elim}
 use mathlib.Core.Option.{Option, none, some}
@@ -24,11 +25,11 @@ use Rattle.model.specs.Answer.{Neighbour, answer, chosenCount, neighbour
 use Rattle.model.specs.Refusals.{lookupRefusal, neighboursRefusal}
 use Rattle.model.specs.Lent.{neighboursInto}
 use Rattle.model.specs.SurveyFile.{fault, wrongSize, fileRefusal, fileOf}
-use Rattle.model.specs.Calls.{Call, Add, Change, Drop, Clear, Load, Ask, refusal, fresh, present, edited}
+use Rattle.model.specs.Calls.{Call, Add, Change, Drop, Clear, Load, Ask, refusal, fresh, after, present, edited}
 use Rattle.model.specs.FarOff.{Alike, Spared}
 use Rattle.model.specs.Grid.{Grid, gridRefusal, cells}
 use Rattle.model.specs.Filling.{GivenRow, NoGrid, Begun, beginRefusal, rowRefusal, rowInto}
-use Rattle.model.specs.RowCalls.{RowCall, OnSurvey, Begin, NextRow, Bench, bench, freshBench, benchAfter, rowsGiven}
+use Rattle.model.specs.RowCalls.{RowCall, OnSurvey, Begin, NextRow, Bench, bench, freshBench, benchAfter, rowsGiven, NoneBegins, rowsAsked}
 use Rattle.model.specs.GridReading.{gridOfFile, cellsOfFile, someLength, gridFileCheck, cellsReadRefusal, cellsReadInto}
 use Rattle.model.specs.Decimal.{digitsOf, places, decimal, signedDecimal, decimalRead}
 use Rattle.model.specs.Esri.{cellText, esriText, esriRefusal, esriInto, cellsRead}
@@ -303,17 +304,24 @@ lends n = NextRow (replicate n (pos 9))
 abbrev given : ℕ → ℤ → ℤ → GivenRow
 given r a b = record { index = r; cells = a ∷ b ∷ [] }
 
+-- a grid at (5, 5) with steps of 2
+abbrev strip : ℕ → ℕ → Grid
+strip m n = record { x0 = 5; y0 = 5; stepX = 2; stepY = 2; columns = m; rows = n }
+
 -- every call of before between the rows, accepted and refused
 abbrev edits : List RowCall
 edits = map OnSurvey (Add 6 6 (pos 9) ∷ Change 5 5 (pos 9) ∷ Drop 7 7 ∷ Drop 7 7 ∷ Load (fileOf (point 5 5 (pos 8) ∷ [])) ∷ Load [] ∷ Ask ∷ Clear ∷ [])
 
--- 7 before 6, 17 before 8, both also of a finished grid; a row at the front of the lent cells, and none where they are too few;
+-- 7 before 6, 17 before 8, both also of a finished grid, and 8 by the columns; a row at the front of the lent cells, and none where they are too few;
 -- over what was present at the begin, whatever comes between; refused, a row is still the next one, and a begin keeps the grid, finished or not; accepted, it starts at row 0;
 -- a row that no grid is begun for, and what the calls leave
 pub rows : (map (λ g. beginRefusal g (settled fresh)) (square 0 0 0 1 ∷ square 0 0 65 64 ∷ []) ≡ 7 ∷ 6 ∷ [])
     × (map (rowRefusal NoGrid) (0 ∷ 64 ∷ []) ≡ 17 ∷ 17 ∷ [])
     × (map (rowRefusal (Begun corners (square 5 5 2 2) 1)) (0 ∷ 1 ∷ 2 ∷ 3 ∷ []) ≡ 8 ∷ 8 ∷ 0 ∷ 0 ∷ [])
     × (map (rowRefusal (Begun corners (square 5 5 2 2) 2)) (0 ∷ 2 ∷ []) ≡ 17 ∷ 17 ∷ [])
+    × (map (rowRefusal (Begun corners (strip 1 2) 1)) (0 ∷ 1 ∷ []) ≡ 8 ∷ 0 ∷ [])
+    × (map (rowRefusal (Begun corners (strip 2 1) 0)) (1 ∷ 2 ∷ []) ≡ 8 ∷ 0 ∷ [])
+    × (rowRefusal (Begun corners (strip 2 1) 1) 2 ≡ 17)
     × (rowInto (Begun corners (square 5 5 2 2) 1) (pos 9 ∷ pos 9 ∷ pos 9 ∷ []) ≡ pos 768 ∷ pos 1024 ∷ pos 9 ∷ [])
     × (rowInto (Begun corners (square 5 5 2 2) 1) (pos 9 ∷ []) ≡ pos 9 ∷ [])
     × (rowsGiven (Begin (square 5 5 2 2) ∷ lends 2 ∷ edits ++ lends 3 ∷ lends 2 ∷ []) four-stand ≡ given 0 (pos 256) (pos 512) ∷ given 1 (pos 768) (pos 1024) ∷ [])
@@ -323,7 +331,14 @@ pub rows : (map (λ g. beginRefusal g (settled fresh)) (square 0 0 0 1 ∷ squar
     × (rowsGiven (lends 2 ∷ Begin (square 5 5 2 2) ∷ lends 2 ∷ []) freshBench ≡ [])
     × (benchAfter (Begin (square 5 5 2 2) ∷ lends 2 ∷ edits ++ lends 1 ∷ []) four-stand ≡ bench fresh (Begun corners (square 5 5 2 2) 1))
 unfolding rowRefusal rowInto rowsGiven benchAfter fileOf extentOf
-rows = (refl, refl, refl, refl, refl, refl, refl, refl, refl, refl, refl, refl)
+rows = (refl, refl, refl, refl, refl, refl, refl, refl, refl, refl, refl, refl, refl, refl, refl)
+
+-- begins that are refused, 7 and 6, among the calls up to the next accepted begin; and one that is accepted, which is not among them
+pub rows-between : NoneBegins (corners .contents) (Begin (square 5 5 0 2) ∷ lends 2 ∷ OnSurvey Clear ∷ Begin (square 5 5 2 2) ∷ [])
+    × (NoneBegins (corners .contents) (OnSurvey Ask ∷ Begin (square 5 5 2 2) ∷ []) → ⊥)
+    × (rowsAsked 2 (lends 1 ∷ lends 2 ∷ OnSurvey Clear ∷ Begin (square 5 5 2 2) ∷ lends 3 ∷ []) ≡ 2)
+unfolding after
+rows-between = ((λ h. absurd (omega arith), (λ h. absurd (omega arith), tt)), λ h. h .0 refl, refl)
 
 -- document 01's whole case of the grid program
 abbrev wholeInput : List ℕ
