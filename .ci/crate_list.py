@@ -1,6 +1,7 @@
 """Holds crates.txt to README.md's table of crates and to what each crate uses.
 
     crate_list.py           writes crates.txt: the headings and the order of README's table, and for each crate the libraries that it names
+                            and those whose structs stand in its own
     crate_list.py --check   fails where crates.txt differs, or where the table and the folders of crates/ do not list the same crates
 """
 from __future__ import annotations

@@ -11,7 +11,8 @@ from collections.abc import Iterator
 # its callers, or a program, which nobody calls.
 FACE = """
     survey_file survey lending history grid grid_reading grid_rows esri grid_history grid_program
-    esri_program many_lookups whole_files file_edits file_lookups file_neighbours file_grids grid_files shepard
+    esri_program many_lookups whole_files file_edits file_lookups file_neighbours file_grids
+    grid_files shepard
 """
 BELOW = """
     model laws numbers relative_error floats root digits point_arrays shift locate polygon extent

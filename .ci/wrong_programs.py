@@ -20,7 +20,7 @@ LEAST = 2
 HANDING_ON = ('shepard',)
 
 LIST = pathlib.Path('docs/WRONG_PROGRAMS.md')
-CODE, CONTRACT, DEFINITION = 'code', 'contract', 'definition'
+CODE, CONTRACT, DEFINITION, PROOF = 'code', 'contract', 'definition', 'proof'
 
 HEAD = re.compile(r'# (?P<subject>\S+): (?P<wrong>.+?)(?: \(refused by (?P<case>.+)\))?')
 FUNCTION = re.compile(r'^ *(?P<public>pub )?(?:pub\(crate\) )?(?:extern "C" )?fn (?P<name>\w+)', re.M)
@@ -87,6 +87,8 @@ def kind_of(file: str, text: str, start: int, end: int) -> str:
     """What the text from `start` to `end` of a file belongs to."""
     if file.startswith('specs/'):
         return DEFINITION
+    if file.startswith('proofs/'):
+        return PROOF
     clauses = ((match.start(), end_of_block(text, match.end())) for match in CLAUSE.finditer(text))
     return CONTRACT if any(first < end and start < last for first, last in clauses) else CODE
 
@@ -122,7 +124,7 @@ def edit_at(path: pathlib.Path) -> Edit:
     if head is None:
         raise Fault(f'{path}: its first line is not "# SUBJECT: WRONG PROGRAM"')
     made = changes(path)
-    kinds = tuple(dict.fromkeys(kind for _, kind in made))
+    kinds = tuple(dict.fromkeys(kind for _, kind in made if kind != PROOF))
     files = tuple(dict.fromkeys(file for file, _ in made))
     return Edit(path, path.parent.parent.name, head['subject'], head['wrong'], head['case'] or '', kinds, files)
 

@@ -5,12 +5,14 @@ use mathlib.Core.List.{List, _++_}
 use lib.IntN.{ℤ}
 use lib.ListN.{length, drop}
 use borrow.Author.Tests.{eq-eqb, ne-eqb}
+use Rattle.model.specs.Lists.{laid}
 use Rattle.model.specs.Point.{State}
 use Rattle.model.specs.Grid.{Grid, cellCount, gridRefusal, cells, cellsInto}
 use Rattle.model.specs.GridFile.{gridFile, gridFileLength, gridFileRefusal, gridFileInto}
 use Rattle.laws.proofs.GridLaws.{length-cells, length-grid-file}
 use Rattle.survey_file.specs.declared.Written.the-variants.{Length, Refused as Written·Refused}
 use Rattle.grid_rules.specs.declared.Filled.the-variants.{Cells, Refused}
+use Rattle.grid_rules.proofs.Told.{told-cells}
 use Rattle.grid_cells.specs.CellsRight.{CellsRight, WrittenRight}
 use Rattle.grid.specs.FilledAs.{filledAs, FilledRight, gridWrittenAs}
 
@@ -24,6 +26,11 @@ module _ (s : State) (g : Grid) where
         → (Cells (cellCount g) ≡ filledAs s g (length d)) × ((cells s g ++ drop (cellCount g) d ≡ cellsInto s g d) × FilledRight s g (Cells (cellCount g)))
     unfolding filledAs cellsInto FilledRight
     cells-filled h right = rw (eq-eqb (gridRefusal g s (length d)) 0 h, length-cells s g) (refl, (refl, right))
+
+    -- where they were filled, the cells stand at the front of what was lent
+    pub filled-laid : (n : ℕ) → filledAs s g (length d) ≡ Cells n → cellsInto s g d ≡ laid (cells s g) d
+    unfolding filledAs cellsInto
+    filled-laid n h = rw (eq-eqb (gridRefusal g s (length d)) 0 (told-cells (gridRefusal g s (length d)) (cellCount g) (filledAs s g (length d)) refl n h .0))
 
   module _ (d : List ℕ) where
     pub file-refused : (n : ℕ) → n ≡ gridFileRefusal g s (length d) → (n ≡ 0 → ⊥) → (Written·Refused n ≡ gridWrittenAs s g (length d)) × ((d ≡ gridFileInto s g d) × WrittenRight s g (Written·Refused n))

@@ -8,7 +8,6 @@ use mathlib.Core.List.{List, [], map}
 use mathlib.Core.Option.{none, some}
 use lib.IntN.{ℤ, pos}
 use lib.ListN.{length, take, drop, getD, List·getD-append}
-use borrow.Author.Tests.{eq-eqb}
 use contract.Lifetimes.{Lfts}
 use denote.Ref.{RefT, now}
 use Rattle.model.specs.Point.{Contents, State}
@@ -32,8 +31,8 @@ use Rattle.grid_rules.specs.declared.Grid.{Grid}
 use Rattle.grid_rules.specs.declared.Filled.{Filled}
 use Rattle.grid_rules.specs.declared.Filled.the-variants.{Cells}
 use Rattle.grid_rules.specs.GridOf.{gridOf}
-use Rattle.grid_rules.proofs.Told.{told-cells}
 use Rattle.grid.specs.FilledAs.{filledAs}
+use Rattle.grid.proofs.FilledLaws.{filled-laid}
 use Rattle.grid.proofs.cells.Reads as cells-of
 use Rattle.grid.proofs.write.Reads as write-of
 use Rattle.esri.proofs.write.Reads as text-of
@@ -55,10 +54,7 @@ told-same q r alike g n = rw (alike-length q r alike)
 -- what lent cells hold of a grid that was filled
 module _ (s : State) (g : Model·Grid) (d : List ℤ) where
   filled-at : (n : ℕ) → filledAs s g (length d) ≡ Cells n → (i : ℕ) (z : ℤ) → i < cellCount g → getD (cellsInto s g d) i z ≡ getD (cells s g) i z
-  unfolding filledAs cellsInto
-  filled-at n h i z k =
-      let accepted = told-cells (gridRefusal g s (length d)) (cellCount g) (filledAs s g (length d)) refl n h .0 in
-      rw (eq-eqb (gridRefusal g s (length d)) 0 accepted) (List·getD-append (cells s g) (drop (length (cells s g)) d) z i (omega (arith, length-cells s g)))
+  filled-at n h i z k = rw (filled-laid s g d n h) (List·getD-append (cells s g) (drop (length (cells s g)) d) z i (omega (arith, length-cells s g)))
 
 module _ {cs ds : List Call} {s t : Survey} (one : Runs cs s) (other : Runs ds t) (alike : Alike (present cs) (present ds)) (g : Grid) where
   -- of `grid::cells`, lent cells of one number: what is told

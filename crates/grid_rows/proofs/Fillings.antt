@@ -25,7 +25,7 @@ use Rattle.grid_rows.specs.declared.RowAnswer.{RowAnswer}
 use Rattle.grid_rows.specs.declared.RowAnswer.the-variants.{Row, Refused}
 use Rattle.grid_rows.specs.FillingOf.{fillingOf, Begins, Advances, rowedAs, RowRounded}
 
--- a grid that a begin accepts
+-- by which number a begin would refuse the grid
 abbrev pub begins : Filling → ℕ
 begins f = beginRefusal (gridOf (f .grid)) (stateOf (f .survey))
 
@@ -43,6 +43,7 @@ module _ (f : Filling) (s : Survey) (g : Grid) (n : ℕ) (e : n ≡ beginRefusal
   begin-refuses h = record {
     number = e;
     filling = sym (begin-refused (gridOf g) (stateOf s) (fillingOf f) (λ z. h (e ∙ z)));
+    survey = λ z. absurd (h (e ∙ z));
     unaltered = λ _. refl;
   }
 
@@ -52,6 +53,7 @@ module _ (f : Filling) (s : Survey) (g : Grid) (n : ℕ) (e : n ≡ beginRefusal
       record {
         number = e;
         filling = read-begun record { survey = s; grid = g; next = 0 } z ∙ sym (begin-accepted (gridOf g) (stateOf s) (fillingOf f) z);
+        survey = λ _. refl;
         unaltered = λ k. absurd (k z);
       }
 
@@ -73,13 +75,13 @@ module _ (f : Filling) (n : ℕ) where
   -- 17, then 8: the first of the two that is not 0
   abbrev FirstOf : Model·Filling → Type 0
   FirstOf m =
-      let last = rowRefusal m (f .grid .columns) in
+      let finished = rowRefusal m (f .grid .columns) in
       let room = enough n (f .grid .columns) in
-      cond (eqb last 0) (cond (eqb room 0) 0 room) last ≡ rowRefusal m n
+      cond (eqb finished 0) (cond (eqb room 0) 0 room) finished ≡ rowRefusal m n
 
-  pub last-then-room : FirstOf (fillingOf f)
+  pub finished-then-room : FirstOf (fillingOf f)
   unfolding fillingOf rowRefusal
-  last-then-room = by-begin (eqb (begins f) 0)
+  finished-then-room = by-begin (eqb (begins f) 0)
     where
       by-tests : (u v : Bool) → _≡_ {A = ℕ} (cond (eqb (cond u 0 17) 0) (cond (eqb (cond v 8 0) 0) 0 (cond v 8 0)) (cond u 0 17)) (cond u (cond v 8 0) 17)
       by-tests true true = refl
@@ -122,7 +124,7 @@ module _ (f : Filling) (d : List ℤ) where
   row-refuses n e h =
       let k : rowRefusal (fillingOf f) (length d) ≡ 0 → ⊥ = λ z. h (e ∙ z) in
       let z = ne-eqb (rowRefusal (fillingOf f) (length d)) 0 k in
-      (rw (z, e), (record { filling = sym (row-refused (fillingOf f) (length d) k); unaltered = λ _. refl }, (rw z, rounded-refused (fillingOf f) n)))
+      (rw (z, e), (record { filling = sym (row-refused (fillingOf f) (length d) k); survey = refl; unaltered = λ _. refl }, (rw z, rounded-refused (fillingOf f) n)))
 
   pub row-fills : rowRefusal (fillingOf f) (length d) ≡ 0 → RowRight (stateOf (f .survey)) (gridOf (f .grid)) (f .next)
       → Gives (Row (f .next) (f .grid .columns)) (moved f) (row (stateOf (f .survey)) (gridOf (f .grid)) (f .next) ++ drop (f .grid .columns) d)
@@ -133,4 +135,4 @@ module _ (f : Filling) (d : List ℤ) where
       let b = read-begun f k in
       let size = length-row (stateOf (f .survey)) (gridOf (f .grid)) (f .next) in
       let m : fillingOf (moved f) ≡ Begun (stateOf (f .survey)) (gridOf (f .grid)) (f .next + 1) = read-begun (moved f) k in
-      (rw (z, b, size), (record { filling = rw (row-accepted (fillingOf f) (length d) h, m, b, add-one); unaltered = λ v. absurd (v h) }, (rw (z, b, size), rw b right)))
+      (rw (z, b, size), (record { filling = rw (row-accepted (fillingOf f) (length d) h, m, b, add-one); survey = refl; unaltered = λ v. absurd (v h) }, (rw (z, b, size), rw b right)))

@@ -1,2 +1,2 @@
--- Facts that the proofs of this crate share, and what the answer of a row tells: Told.
+-- Facts that the proofs of this crate share.
 pub mod Fillings

@@ -19,15 +19,17 @@ use Rattle.grid_rows.specs.declared.RowAnswer.the-variants.{Row, Refused
 unfoldable pub fillingOf : Filling → Model·Filling
 fillingOf f = cond (eqb (beginRefusal (gridOf (f .grid)) (stateOf (f .survey))) 0) (Begun (stateOf (f .survey)) (gridOf (f .grid)) (f .next)) NoGrid
 
--- a begin of g over s gives r, where f is being filled: the paper's number, and, where it is refused, the very f
+-- a begin of g over s gives r, where f is being filled: the paper's number; accepted, it keeps the very survey; refused, it gives back the very f
 pub record Begins (f : Filling) (s : Survey) (g : Grid) (r : BeginReply) : Type 0 where
   pub number : r .refusal ≡ beginRefusal (gridOf g) (stateOf s)
   pub filling : fillingOf (r .filling) ≡ afterBegin (gridOf g) (stateOf s) (fillingOf f)
+  pub survey : beginRefusal (gridOf g) (stateOf s) ≡ 0 → r .filling .survey ≡ s
   pub unaltered : (beginRefusal (gridOf g) (stateOf s) ≡ 0 → ⊥) → r .filling ≡ f
 
--- the next row, lent n cells, leaves t of f
+-- after the next row of f, lent n cells, t is being filled: refused, the very f
 pub record Advances (f : Filling) (n : ℕ) (t : Filling) : Type 0 where
   pub filling : fillingOf t ≡ afterRow (fillingOf f) n
+  pub survey : t .survey ≡ f .survey
   pub unaltered : (rowRefusal (fillingOf f) n ≡ 0 → ⊥) → t ≡ f
 
 -- what the next row, lent n cells, answers

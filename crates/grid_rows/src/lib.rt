@@ -6,7 +6,7 @@ ghost use Rattle.grid_rows.specs.FillingOf.{fillingOf, Begins, Advances,
 pub use grid_rules::Grid;
 use survey::Survey;
 
-// The grid being filled: the survey at the begin, the grid, and the index of its next row. It stands beside the survey, which is edited meanwhile; a grid that no begin accepts, as one of no rows, stands for none begun.
+// The grid being filled: the survey at the begin, the grid, and the index of its next row. It stands beside the survey, which is edited meanwhile; a grid that no begin accepts stands for none begun.
 pub struct Filling {
     survey: Survey,
     grid: Grid,
@@ -71,7 +71,7 @@ pub fn begin(before: Filling, s: Survey, g: Grid) -> BeginReply
 }
 
 // Refusal 17, with no grid begun or after its last row, or 0: that of a row where enough is lent.
-fn last_refusal(f: Filling) -> u8
+fn finished_refusal(f: Filling) -> u8
     ensures { λ r. ⌜ r ≡ rowRefusal (fillingOf f) (f .grid .columns) ⌝ }
 {
     let g = f.grid;
@@ -90,9 +90,9 @@ fn row_refusal(f: Filling, lent: usize) -> u8
     ensures { λ r. ⌜ r ≡ rowRefusal (fillingOf f) lent ⌝ }
 {
     let g = f.grid;
-    let last = last_refusal(f);
+    let finished = finished_refusal(f);
     let room = grid_rules::room_refusal(lent, g.columns as usize);
-    grid_rules::first(last, room, 0)
+    grid_rules::first(finished, room, 0)
 }
 
 // The next row's cells to the front of the lent ones, which row it is, and how many cells it has: refusals 17, 8.

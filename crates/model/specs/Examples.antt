@@ -29,7 +29,7 @@ use Rattle.model.specs.Calls.{Call, Add, Change, Drop, Clear, Load, Ask,
 use Rattle.model.specs.FarOff.{Alike, Spared}
 use Rattle.model.specs.Grid.{Grid, gridRefusal, cells}
 use Rattle.model.specs.Filling.{GivenRow, NoGrid, Begun, beginRefusal, rowRefusal, rowInto}
-use Rattle.model.specs.RowCalls.{RowCall, OnSurvey, Begin, NextRow, Bench, bench, freshBench, benchAfter, rowsGiven, NoneBegins, rowsAsked}
+use Rattle.model.specs.RowCalls.{RowCall, OnSurvey, Begin, NextRow, Session, session, freshSession, sessionAfter, rowsGiven, NoneBegins, rowsAsked}
 use Rattle.model.specs.GridReading.{gridOfFile, cellsOfFile, someLength, gridFileCheck, cellsReadRefusal, cellsReadInto}
 use Rattle.model.specs.Decimal.{digitsOf, places, decimal, signedDecimal, decimalRead}
 use Rattle.model.specs.Esri.{cellText, esriText, esriRefusal, esriInto, cellsRead}
@@ -293,9 +293,9 @@ pub grids : (map (λ g. gridRefusal g (settled fresh) 0) (square 0 0 0 1 ∷ squ
 unfolding gridRefusal cells extentOf
 grids = (refl, refl, refl, refl, refl)
 
--- a bench with the four corners; row calls that lend n cells
-abbrev four-stand : Bench
-four-stand = bench (corners .contents) NoGrid
+-- four points and no grid begun; a row call that lends n cells
+abbrev fourCorners : Session
+fourCorners = session (corners .contents) NoGrid
 
 abbrev lends : ℕ → RowCall
 lends n = NextRow (replicate n (pos 9))
@@ -308,14 +308,15 @@ given r a b = record { index = r; cells = a ∷ b ∷ [] }
 abbrev strip : ℕ → ℕ → Grid
 strip m n = record { x0 = 5; y0 = 5; stepX = 2; stepY = 2; columns = m; rows = n }
 
--- every call of before between the rows, accepted and refused
+-- every call on the survey, accepted and, but for one that only asks and a clear, refused
 abbrev edits : List RowCall
-edits = map OnSurvey (Add 6 6 (pos 9) ∷ Change 5 5 (pos 9) ∷ Drop 7 7 ∷ Drop 7 7 ∷ Load (fileOf (point 5 5 (pos 8) ∷ [])) ∷ Load [] ∷ Ask ∷ Clear ∷ [])
+edits = map OnSurvey (Add 6 6 (pos 9) ∷ Add 6 6 (pos 8) ∷ Change 5 5 (pos 9) ∷ Change 4 4 (pos 9) ∷ Drop 7 7 ∷ Drop 7 7 ∷ Load (fileOf (point 5 5 (pos 8) ∷ [])) ∷ Load [] ∷ Ask ∷ Clear ∷ [])
 
--- 7 before 6, 17 before 8, both also of a finished grid, and 8 by the columns; a row at the front of the lent cells, and none where they are too few;
+-- 7 before 6, and no other grid refused; 17 before 8, with no grid begun and after the last row, and 8 by the columns; a row at the front of the lent cells, and refused, 8 or 17, none;
 -- over what was present at the begin, whatever comes between; refused, a row is still the next one, and a begin keeps the grid, finished or not; accepted, it starts at row 0;
--- a row that no grid is begun for, and what the calls leave
+-- no row where no grid is begun; and what the calls leave
 pub rows : (map (λ g. beginRefusal g (settled fresh)) (square 0 0 0 1 ∷ square 0 0 65 64 ∷ []) ≡ 7 ∷ 6 ∷ [])
+    × (map (λ g. beginRefusal g corners) (strip 1 2 ∷ strip 64 1 ∷ square 0 0 65 64 ∷ []) ≡ 0 ∷ 0 ∷ 0 ∷ [])
     × (map (rowRefusal NoGrid) (0 ∷ 64 ∷ []) ≡ 17 ∷ 17 ∷ [])
     × (map (rowRefusal (Begun corners (square 5 5 2 2) 1)) (0 ∷ 1 ∷ 2 ∷ 3 ∷ []) ≡ 8 ∷ 8 ∷ 0 ∷ 0 ∷ [])
     × (map (rowRefusal (Begun corners (square 5 5 2 2) 2)) (0 ∷ 2 ∷ []) ≡ 17 ∷ 17 ∷ [])
@@ -324,20 +325,23 @@ pub rows : (map (λ g. beginRefusal g (settled fresh)) (square 0 0 0 1 ∷ squar
     × (rowRefusal (Begun corners (strip 2 1) 1) 2 ≡ 17)
     × (rowInto (Begun corners (square 5 5 2 2) 1) (pos 9 ∷ pos 9 ∷ pos 9 ∷ []) ≡ pos 768 ∷ pos 1024 ∷ pos 9 ∷ [])
     × (rowInto (Begun corners (square 5 5 2 2) 1) (pos 9 ∷ []) ≡ pos 9 ∷ [])
-    × (rowsGiven (Begin (square 5 5 2 2) ∷ lends 2 ∷ edits ++ lends 3 ∷ lends 2 ∷ []) four-stand ≡ given 0 (pos 256) (pos 512) ∷ given 1 (pos 768) (pos 1024) ∷ [])
-    × (rowsGiven (Begin (square 5 5 2 2) ∷ lends 1 ∷ lends 2 ∷ Begin (square 5 5 0 2) ∷ lends 0 ∷ lends 2 ∷ []) four-stand ≡ given 0 (pos 256) (pos 512) ∷ given 1 (pos 768) (pos 1024) ∷ [])
-    × (rowsGiven (Begin (square 5 5 2 2) ∷ lends 2 ∷ Begin (square 5 5 2 2) ∷ lends 2 ∷ []) four-stand ≡ given 0 (pos 256) (pos 512) ∷ given 0 (pos 256) (pos 512) ∷ [])
-    × (rowsGiven (Begin (square 5 5 2 2) ∷ lends 2 ∷ lends 2 ∷ OnSurvey Clear ∷ Begin (square 5 5 2 2) ∷ lends 2 ∷ []) four-stand ≡ given 0 (pos 256) (pos 512) ∷ given 1 (pos 768) (pos 1024) ∷ [])
-    × (rowsGiven (lends 2 ∷ Begin (square 5 5 2 2) ∷ lends 2 ∷ []) freshBench ≡ [])
-    × (benchAfter (Begin (square 5 5 2 2) ∷ lends 2 ∷ edits ++ lends 1 ∷ []) four-stand ≡ bench fresh (Begun corners (square 5 5 2 2) 1))
-unfolding rowRefusal rowInto rowsGiven benchAfter fileOf extentOf
-rows = (refl, refl, refl, refl, refl, refl, refl, refl, refl, refl, refl, refl, refl, refl, refl)
+    × (rowInto (Begun corners (square 5 5 2 2) 2) (pos 9 ∷ pos 9 ∷ []) ≡ pos 9 ∷ pos 9 ∷ [])
+    × (rowInto NoGrid (pos 9 ∷ []) ≡ pos 9 ∷ [])
+    × (rowsGiven (Begin (square 5 5 2 2) ∷ lends 2 ∷ edits ++ lends 3 ∷ lends 2 ∷ []) fourCorners ≡ given 0 (pos 256) (pos 512) ∷ given 1 (pos 768) (pos 1024) ∷ [])
+    × (rowsGiven (Begin (square 5 5 2 2) ∷ lends 1 ∷ lends 2 ∷ Begin (square 5 5 0 2) ∷ lends 0 ∷ lends 2 ∷ []) fourCorners ≡ given 0 (pos 256) (pos 512) ∷ given 1 (pos 768) (pos 1024) ∷ [])
+    × (rowsGiven (Begin (square 5 5 2 2) ∷ lends 2 ∷ Begin (square 5 5 2 2) ∷ lends 2 ∷ []) fourCorners ≡ given 0 (pos 256) (pos 512) ∷ given 0 (pos 256) (pos 512) ∷ [])
+    × (rowsGiven (Begin (square 5 5 2 2) ∷ lends 2 ∷ lends 2 ∷ OnSurvey Clear ∷ Begin (square 5 5 2 2) ∷ lends 2 ∷ []) fourCorners ≡ given 0 (pos 256) (pos 512) ∷ given 1 (pos 768) (pos 1024) ∷ [])
+    × (rowsGiven (Begin (strip 2 1) ∷ lends 2 ∷ OnSurvey (Change 5 5 (pos 9)) ∷ Begin (square 5 5 2 2) ∷ lends 2 ∷ []) fourCorners ≡ given 0 (pos 256) (pos 512) ∷ given 0 (pos 2304) (pos 512) ∷ [])
+    × (rowsGiven (lends 2 ∷ Begin (square 5 5 2 2) ∷ lends 2 ∷ []) freshSession ≡ [])
+    × (sessionAfter (Begin (square 5 5 2 2) ∷ lends 2 ∷ edits ++ lends 1 ∷ []) fourCorners ≡ session fresh (Begun corners (square 5 5 2 2) 1))
+unfolding rowRefusal rowInto rowsGiven sessionAfter fileOf extentOf
+rows = (refl, refl, refl, refl, refl, refl, refl, refl, refl, refl, refl, refl, refl, refl, refl, refl, refl, refl, refl)
 
--- begins that are refused, 7 and 6, among the calls up to the next accepted begin; and one that is accepted, which is not among them
-pub rows-between : NoneBegins (corners .contents) (Begin (square 5 5 0 2) ∷ lends 2 ∷ OnSurvey Clear ∷ Begin (square 5 5 2 2) ∷ [])
+-- rows of every kind, edits, and begins that are refused, 7 and 6, are among the calls up to the next accepted begin; an accepted one is not
+pub rows-between : NoneBegins (corners .contents) (Begin (square 5 5 0 2) ∷ lends 0 ∷ lends 2 ∷ lends 2 ∷ lends 2 ∷ edits ++ Begin (square 5 5 2 2) ∷ lends 1 ∷ [])
     × (NoneBegins (corners .contents) (OnSurvey Ask ∷ Begin (square 5 5 2 2) ∷ []) → ⊥)
     × (rowsAsked 2 (lends 1 ∷ lends 2 ∷ OnSurvey Clear ∷ Begin (square 5 5 2 2) ∷ lends 3 ∷ []) ≡ 2)
-unfolding after
+unfolding after fileOf
 rows-between = ((λ h. absurd (omega arith), (λ h. absurd (omega arith), tt)), λ h. h .0 refl, refl)
 
 -- document 01's whole case of the grid program

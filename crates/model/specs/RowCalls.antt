@@ -21,38 +21,38 @@ pub data RowCall : Type 0 where
   NextRow : List ℤ → RowCall
 
 -- what calls determine: the survey's contents, and beside them the grid being filled
-pub record Bench : Type 0 where
+pub record Session : Type 0 where
   pub contents : Contents
   pub filling : Filling
 
-abbrev pub bench : Contents → Filling → Bench
-bench q f = record { contents = q; filling = f }
+abbrev pub session : Contents → Filling → Session
+session q f = record { contents = q; filling = f }
 
 -- a fresh survey, and no grid begun
-abbrev pub freshBench : Bench
-freshBench = bench fresh NoGrid
+abbrev pub freshSession : Session
+freshSession = session fresh NoGrid
 
 -- what a call leaves: one on the survey alters nothing of the grid being filled, a begin and a row nothing of the survey
-unfoldable pub afterRowCall : RowCall → Bench → Bench
+unfoldable pub afterRowCall : RowCall → Session → Session
 unfolding after afterBegin afterRow
-afterRowCall (OnSurvey c) b = bench (after c (b .contents)) (b .filling)
-afterRowCall (Begin g) b = bench (b .contents) (afterBegin g (settled (b .contents)) (b .filling))
-afterRowCall (NextRow d) b = bench (b .contents) (afterRow (b .filling) (length d))
+afterRowCall (OnSurvey c) b = session (after c (b .contents)) (b .filling)
+afterRowCall (Begin g) b = session (b .contents) (afterBegin g (settled (b .contents)) (b .filling))
+afterRowCall (NextRow d) b = session (b .contents) (afterRow (b .filling) (length d))
 
 -- the row that a call gives: one or none
-unfoldable pub givenBy : RowCall → Bench → List GivenRow
+unfoldable pub givenBy : RowCall → Session → List GivenRow
 unfolding rowRefusal nextRow
 givenBy (OnSurvey c) b = []
 givenBy (Begin g) b = []
 givenBy (NextRow d) b = afterwards (rowRefusal (b .filling) (length d)) (nextRow (b .filling) ∷ []) []
 
 -- what a list of calls leaves, and the rows that it gives, in order
-unfoldable pub benchAfter : List RowCall → Bench → Bench
+unfoldable pub sessionAfter : List RowCall → Session → Session
 unfolding afterRowCall
-benchAfter [] b = b
-benchAfter (c ∷ cs) b = benchAfter cs (afterRowCall c b)
+sessionAfter [] b = b
+sessionAfter (c ∷ cs) b = sessionAfter cs (afterRowCall c b)
 
-unfoldable pub rowsGiven : List RowCall → Bench → List GivenRow
+unfoldable pub rowsGiven : List RowCall → Session → List GivenRow
 unfolding givenBy afterRowCall
 rowsGiven [] b = []
 rowsGiven (c ∷ cs) b = givenBy c b ++ rowsGiven cs (afterRowCall c b)

@@ -14,7 +14,7 @@ use Rattle.grid_cells.specs.CellsRight.{RowRight}
 abbrev pub presentAfter : List RowCall → Contents
 presentAfter cs = present (map surveyCall cs)
 
--- where q is present at the begin of g, and cs are the calls from there on
+-- where q is present at an accepted begin of g, cs are the calls behind it, up to the next accepted begin at most, and rows are those that they wrote
 pub record ClaimRows (q : Contents) (g : Grid) (cs : List RowCall) (rows : List GivenRow) : Type 0 where
   -- they are the first rows of the grid made in one go
   pub first-rows : FirstRows q g cs rows

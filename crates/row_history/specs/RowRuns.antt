@@ -34,11 +34,11 @@ pub data MakesRow : RowCall → Survey → Filling → Survey → Filling → Li
   fills : (s : Survey) (f : Filling) (κs : Lfts 1) (out left : RefT (List ℤ)) (r : RowReply) → row-of.Post κs (f, (out, tt)) r (f, (left, tt))
       → MakesRow (NextRow (now out)) s f s (r .filling) (written (r .answer) (now left))
 
--- the calls cs, made one after the other on s and f, left t and h, and wrote these rows, in order
+-- the calls, made one after the other on the survey and the grid being filled in front, left the two behind, and wrote these rows, in order
 pub data RowRuns : List RowCall → Survey → Filling → Survey → Filling → List GivenRow → Type 0 where
-  start : (s : Survey) (f : Filling) → RowRuns [] s f s f []
-  more : (cs : List RowCall) (c : RowCall) (s t u : Survey) (f h k : Filling) (before now : List GivenRow)
-      → RowRuns cs s f t h before → MakesRow c t h u k now → RowRuns (cs ++ c ∷ []) s f u k (before ++ now)
+  done : (s : Survey) (f : Filling) → RowRuns [] s f s f []
+  next : (c : RowCall) (cs : List RowCall) (s t u : Survey) (f h k : Filling) (row rows : List GivenRow)
+      → MakesRow c s f t h row → RowRuns cs t h u k rows → RowRuns (c ∷ cs) s f u k (row ++ rows)
 
 -- a fresh survey, and no grid begun
 pub record Fresh (s : Survey) (f : Filling) : Type 0 where

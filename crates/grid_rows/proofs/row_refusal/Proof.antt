@@ -1,12 +1,12 @@
 -- `row_refusal` meets its contract: 17 before 8.
 use mathlib.Core.Path.{_∙_}
-use Rattle.grid_rows.proofs.Fillings.{last-then-room}
+use Rattle.grid_rows.proofs.Fillings.{finished-then-room}
 use borrow.Author.Needs.{needs}
 use Rattle.grid_rows.proofs.row_refusal.Statement.{statement}
 use Rattle.grid_rows.proofs.row_refusal.Tie as tie
 
-last-refusal-requires : tie.Need-last-refusal-requires
-last-refusal-requires c κs = search needs
+finished-refusal-requires : tie.Need-finished-refusal-requires
+finished-refusal-requires c κs = search needs
 
 cast-room-refusal : tie.Need-cast-room-refusal
 cast-room-refusal c = search needs
@@ -22,9 +22,9 @@ returns c =
     let r = c .before in
     let l = r .before .before in
     let a = l .before .before .args in
-    rw (l .last-refusal .ensures, r .room-refusal .ensures) at (c .first .ensures) ∙ last-then-room (a .f) (a .lent)
+    rw (l .finished-refusal .ensures, r .room-refusal .ensures) at (c .first .ensures) ∙ finished-then-room (a .f) (a .lent)
 
 pub row-refusal-spec : {M : Type 1} → statement M
 row-refusal-spec =
     tie.close
-    (tie.spec last-refusal-requires cast-room-refusal room-refusal-requires first-requires returns)
+    (tie.spec finished-refusal-requires cast-room-refusal room-refusal-requires first-requires returns)

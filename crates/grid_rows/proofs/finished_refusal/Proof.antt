@@ -1,11 +1,11 @@
--- `last_refusal` meets its contract: one case for each `return`.
+-- `finished_refusal` meets its contract: one case for each `return`.
 use mathlib.Core.Path.{sym, _∙_}
 use native.Mathlib.Omega.{arith}
 use Rattle.survey.specs.StateOf.{stateOf}
 use Rattle.grid_rows.proofs.Fillings.{no-grid, no-row, row-left}
 use borrow.Author.Needs.{needs}
-use Rattle.grid_rows.proofs.last_refusal.Statement.{statement}
-use Rattle.grid_rows.proofs.last_refusal.Tie as tie
+use Rattle.grid_rows.proofs.finished_refusal.Statement.{statement}
+use Rattle.grid_rows.proofs.finished_refusal.Tie as tie
 
 count-requires : tie.Need-count-requires
 count-requires c κs = search needs
@@ -36,6 +36,6 @@ returns-3 c =
     let f = r .before .before .before .args .f in
     no-row f (sym (r .refusal .ensures (stateOf (f .survey)) (sym (r .before .count .ensures .0))) ∙ e .if1 .left) (omega arith)
 
-pub last-refusal-spec : {M : Type 1} → statement M
-last-refusal-spec =
+pub finished-refusal-spec : {M : Type 1} → statement M
+finished-refusal-spec =
     tie.close (tie.spec count-requires refusal-requires returns cast-if2 returns-2 returns-3)
