@@ -40,9 +40,9 @@ def passed_on() -> dict[str, str]:
 def held() -> dict[str, set[str]]:
     """The structs, as `survey::Survey`, each with those of its own and other libraries that its fields are."""
     structs: dict[str, set[str]] = {}
-    for source in sorted(pathlib.Path('crates').glob('*/src/*.rt')):
+    for source in pathlib.Path('crates').glob('*/src/lib.rt'):
         crate, text = source.parts[1], source.read_text(encoding='utf-8')
-        owners = {item: owner for owner, item in re.findall(r'^(?:pub )?use (?!crate)(\w+)::(\w+);', text, re.M)}
+        owners = {item: owner for owner, item in re.findall(r'^(?:pub )?use (\w+)::(\w+);', text, re.M)}
         for name, fields in re.findall(r'^pub struct (\w+) \{(.*?)^\}', text, re.M | re.S):
             types = re.findall(r': (\w+),', fields)
             structs[f'{crate}::{name}'] = {f'{owners.get(kind, crate)}::{kind}' for kind in types}

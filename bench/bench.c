@@ -65,7 +65,6 @@ static void survey_draw(Survey *s, int n, enum Shape shape) {
         s->z[i] = (int8_t)((int)draw(256) - 128);
     }
     s->count = (uint16_t)n;
-    s->scale_x = s->scale_y = 1;
     s->r0 = initial_radius(s);
 }
 

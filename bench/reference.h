@@ -3,7 +3,7 @@
  * Both have the shape that the documents ask of the library: the survey by value, R0 in it, the root bit by bit. "form" makes one pass that
  * keeps the nearest eleven in a sorted buffer. "kept" has the selection that was found fastest: squares to an array, the points within a limit
  * gathered without a branch, each then put where its rank says. R0 goes by document 02's polygon, and is worked out once, when the survey is
- * made. Differences are taken as often as the survey's scales say. Distances and radii are in 256ths of a step. */
+ * made. Distances and radii are in 256ths of a step. */
 #ifndef REFERENCE_H
 #define REFERENCE_H
 
@@ -16,11 +16,11 @@
 enum { DOMAIN = 4096, MAX_POINTS = 256, FEW = 4, MOST = 10, HELD = 11, MAX_SIDE = 64 };
 enum { FAR_AWAY = 0x7fffffff };
 
-/* Points by ascending x, then y; the scales of x and y, and R0 of them, set by whoever makes the survey. */
+/* Points by ascending x, then y; R0 of them, set by whoever makes the survey. */
 typedef struct {
     uint16_t x[MAX_POINTS], y[MAX_POINTS];
     int8_t z[MAX_POINTS];
-    uint16_t count, scale_x, scale_y;
+    uint16_t count;
     uint32_t r0;
 } Survey;
 
@@ -32,7 +32,7 @@ typedef struct { int32_t squared[HELD + 1], at[HELD + 1]; int count; } Nearest;
 /* One bit at a time, with no division and no branch; gcc would make one of a plain `if`. */
 INLINE uint32_t root(uint64_t n) {
     uint64_t rest = n, r = 0;
-    for (uint64_t bit = (uint64_t)1 << 46; bit != 0; bit >>= 2) {
+    for (uint64_t bit = (uint64_t)1 << 40; bit != 0; bit >>= 2) {
         uint64_t t = r + bit, take = -(uint64_t)(rest >= t);
         rest -= t & take;
         r = (r >> 1) + (bit & take);
@@ -61,7 +61,7 @@ INLINE int twice_area_under(const Survey *s, int side) {
 /* R0; a hardware root, which is exact here. */
 INLINE uint32_t initial_radius(const Survey *s) {
     if (s->count == 0) return 0;
-    uint64_t twice = (uint64_t)s->scale_x * s->scale_y * (uint64_t)(twice_area_under(s, -1) - twice_area_under(s, 1));
+    uint64_t twice = (uint64_t)(twice_area_under(s, -1) - twice_area_under(s, 1));
     return (uint32_t)(int64_t)sqrt((double)(int64_t)(65536u * 791u * twice / (2u * 355u * (uint64_t)s->count)));
 }
 
@@ -72,7 +72,7 @@ INLINE int32_t reach_of(uint32_t radius) {
 }
 
 INLINE int32_t squared_at(const Survey *s, int i, int px, int py) {
-    int dx = s->scale_x * (s->x[i] - px), dy = s->scale_y * (s->y[i] - py);
+    int dx = s->x[i] - px, dy = s->y[i] - py;
     return dx * dx + dy * dy;
 }
 
@@ -180,8 +180,8 @@ INLINE Answer weigh(const Survey *s, int px, int py, uint32_t r0, int32_t reach,
         int at = k->at[i];
         uint32_t whole = distance(k->squared[i]);
         D[i] = (double)(int32_t)whole;
-        X[i] = (double)(256 * s->scale_x * (s->x[at] - px));
-        Y[i] = (double)(256 * s->scale_y * (s->y[at] - py));
+        X[i] = (double)(256 * (s->x[at] - px));
+        Y[i] = (double)(256 * (s->y[at] - py));
         double inverse = 1.0 / D[i], gap = R - D[i];
         factor[i] = few || 3 * whole <= radius ? inverse : taper * gap * gap;
         over[i] = factor[i] * inverse;

@@ -10,7 +10,6 @@ import exact_survey
 import permitted
 from grid_inputs import GridInput
 from journals import Journal
-from metric import PLAIN, Metric
 from operations import BYTES, Operation
 from outcomes import Choice, Outcome
 from permitted import Expected, Piece
@@ -65,12 +64,6 @@ def count_call(counts: Counter[str], call: Call, expected: Expected) -> None:
         count_cells(counts, expected.outcome, cells_counted(call.operation))
 
 
-def count_scaled(counts: Counter[str], call: Call, expected: Expected, metric: Metric) -> None:
-    """Accepted lookups at other scales than document 01's."""
-    accepted = expected.outcome is not None and call.operation.counted == "lookups"
-    counts["scaled lookups"] += accepted and metric != PLAIN
-
-
 def check_shown(call: Call, line: str, trouble: str, at: int) -> None:
     """A line of bytes shows as many as were lent, however many of them its reply tells."""
     shown = (len(line) - len(BYTES.word + " ")) // 2 if call.lent else 0
@@ -101,9 +94,7 @@ def check_replies(journal: Journal, run: Run, counts: Counter[str]) -> None:
         cases = permitted.expected(survey, call)
         wanted = len(cases[0].lines)
         came = [*lines[position : position + wanted], missing, missing][:wanted]
-        case = check_call(cases, call, came, run.trouble, at)
-        count_call(counts, call, case)
-        count_scaled(counts, call, case, survey.metric)
+        count_call(counts, call, check_call(cases, call, came, run.trouble, at))
         position += wanted
     end = lines[position:] + [unended]
     last = ["bad journal", ""] if journal.bad else [""]

@@ -42,8 +42,6 @@ MINIMA = {
     "row cells": 5_000,
     "held row cells": 4_000,
     "held row cells that are free": LEAST,
-    "scales": 2_000,
-    "scaled lookups": 3_000,
     "pairs": LEAST,
     "pair answers": 1_500,
     "pair answers that are free": 500,

@@ -69,8 +69,7 @@ def refused(rng: Random, scene: Scene) -> Call:
     return rng.choice(calls)
 
 
-MAKERS = (add,) * 6 + (change,) * 3 + (drop,) * 3 + (refused,) * 6
-MAKERS += (mixed_calls.mixed_load, mixed_calls.mixed_scales)
+MAKERS = (add,) * 6 + (change,) * 3 + (drop,) * 3 + (refused,) * 6 + (mixed_calls.mixed_load,)
 
 
 def ends_journal(rng: Random, index: int) -> list[Call]:

@@ -8,13 +8,13 @@ from math import isqrt, lcm
 from typing import NamedTuple
 
 import exact_polygon
-from metric import PLAIN, Location, Metric, Offset
+from metric import Location, Metric, Offset
 
 GREATEST_COORDINATE = 4095
 LEAST_VALUE, GREATEST_VALUE = -128, 127
 MOST_POINTS = 256
 FEWEST_NEIGHBOURS, MOST_NEIGHBOURS = 4, 10
-LAST_REFUSAL = 18
+LAST_REFUSAL = 17
 
 COINCIDENT, INVERSE, TAPERED, EDGE = 0, 1, 2, 3
 
@@ -82,7 +82,7 @@ def extent(points: Sequence[Point]) -> list[int]:
 
 
 def twice_area(points: Iterable[Point]) -> int:
-    """2A at scales of 1, a whole number; A is the area of the convex polygon around the points."""
+    """2A, a whole number; A is the area of the convex polygon around the points."""
     return exact_polygon.twice_area(point[:2] for point in points)
 
 
@@ -91,16 +91,16 @@ def radius_of_area(twice: int, count: int) -> int:
     return isqrt(65_536 * 7 * 113 * twice // (2 * 355 * count))
 
 
-def initial_radius(points: Sequence[Point], metric: Metric = PLAIN) -> int:
+def initial_radius(points: Sequence[Point]) -> int:
     """R0."""
-    return radius_of_area(metric.area(twice_area(points)), len(points))
+    return radius_of_area(twice_area(points), len(points))
 
 
-def ends(points: Sequence[Point], metric: Metric = PLAIN) -> Ends:
-    """What a survey holds beside its points: zeros where there are none. R0 alone is scaled."""
+def ends(points: Sequence[Point]) -> Ends:
+    """What a survey holds beside its points: zeros where there are none."""
     if not points:
         return Ends(*[0] * len(Ends._fields))
-    return Ends(*extent(points), initial_radius(points, metric))
+    return Ends(*extent(points), initial_radius(points))
 
 
 # Who is chosen.

@@ -9,6 +9,7 @@ from typing import NamedTuple
 import exact
 import exact_esri
 import exact_files
+import metric
 import outcomes
 from exact import (
     GREATEST_VALUE,
@@ -21,7 +22,7 @@ from exact import (
     Refused,
 )
 from exact_files import GREATEST_FILE, GRID_NUMBERS_BYTES, RECORD_BYTES, TRAILER_BYTES, Grid
-from metric import GREATEST_SCALE, LEAST_SCALE, PLAIN, Location, Metric
+from metric import Location
 from outcomes import ACCEPTED, Choice, Outcome
 
 
@@ -33,11 +34,6 @@ def check_location(x: int, y: int) -> None:
 def check_value(z: int) -> None:
     if not LEAST_VALUE <= z <= GREATEST_VALUE:
         raise Refused(2)
-
-
-def check_scale(scale: int) -> None:
-    if not LEAST_SCALE <= scale <= GREATEST_SCALE:
-        raise Refused(18)
 
 
 def check_lent(lent: int, needed: int) -> None:
@@ -77,14 +73,14 @@ class Filling(NamedTuple):
 
 
 class Survey:
-    """The points present and the scales; a call either acts or raises Refused and alters nothing.
+    """The points present; a call either acts or raises Refused and alters nothing.
 
     A call's method bears its name in operations.TABLE. What a call lends is told by its length.
     Beside the points there is at most one grid being filled.
     """
 
     def __init__(self) -> None:
-        self.metric = PLAIN
+        self.metric = metric.PLAIN
         self.filling: Filling | None = None
         self.replace([])
 
@@ -93,13 +89,13 @@ class Survey:
         self.altered()
 
     def altered(self) -> None:
-        """Forget what was worked out from the points and scales before."""
+        """Forget what was worked out from the points before."""
         self.ordered: list[Point] | None = None
         self.ends: Ends | None = None
         self.lookups: dict[Location, Lookup] = {}
 
     def copy(self) -> Survey:
-        """Another survey with the same points and scales and no grid being filled."""
+        """Another survey with the same points and no grid being filled."""
         other = Survey()
         other.metric = self.metric
         other.replace(self.points())
@@ -113,7 +109,7 @@ class Survey:
 
     def exact_ends(self) -> Ends:
         if self.ends is None:
-            self.ends = exact.ends(self.points(), self.metric)
+            self.ends = exact.ends(self.points())
         return self.ends
 
     def exact_lookup(self, x: int, y: int) -> Lookup:
@@ -173,15 +169,11 @@ class Survey:
         return ACCEPTED
 
     def clear(self) -> Outcome:
-        self.metric = PLAIN
         self.replace([])
         return ACCEPTED
 
     def load(self, data: bytes) -> Outcome:
-        """The file has points only, so that an accepted one brings scales of 1."""
-        points = exact_files.read_survey_file(data)
-        self.metric = PLAIN
-        self.replace(points)
+        self.replace(exact_files.read_survey_file(data))
         return ACCEPTED
 
     def write(self, lent: int) -> Outcome:
@@ -224,14 +216,6 @@ class Survey:
         outcome = Outcome(filled=exact_esri.text(grid, cells), measured=True)
         check_lent(lent, outcomes.filled_units(outcome)[0])
         return outcome
-
-    def set_scales(self, p: int, q: int) -> Outcome:
-        """Both at once; 18 is the only refusal."""
-        check_scale(p)
-        check_scale(q)
-        self.metric = Metric(p, q)
-        self.altered()
-        return ACCEPTED
 
     def begin_grid(self, grid: Grid) -> Outcome:
         exact_files.check_grid(grid)

@@ -8,7 +8,6 @@ import exact
 from exact import Ends, Lookup, Point
 from exact_survey import Survey
 from faults import Plant, fault
-from metric import Metric
 from outcomes import Outcome
 
 RECTANGLE, VALUES, RADIUS = Ends._fields[:4], Ends._fields[4:6], Ends._fields[6:]
@@ -108,10 +107,9 @@ def radius_of_few_points() -> None:
     """With four points or fewer, for which no lookup asks it, R0 is not worked out."""
     right = exact.ends
 
-    def wrong(points: Sequence[Point], metric: Metric) -> Ends:
+    def wrong(points: Sequence[Point]) -> Ends:
         few = len(points) <= exact.FEWEST_NEIGHBOURS
-        ends = right(points, metric)
-        return ends._replace(initial_radius=0) if few else ends
+        return right(points)._replace(initial_radius=0) if few else right(points)
 
     exact.ends = wrong
 
@@ -120,8 +118,8 @@ def radius_of_few_points() -> None:
 def x_and_y_exchanged() -> None:
     right = exact.ends
 
-    def wrong(points: Sequence[Point], metric: Metric) -> Ends:
-        least_x, greatest_x, least_y, greatest_y, *rest = right(points, metric)
+    def wrong(points: Sequence[Point]) -> Ends:
+        least_x, greatest_x, least_y, greatest_y, *rest = right(points)
         return Ends(least_y, greatest_y, least_x, greatest_x, *rest)
 
     exact.ends = wrong
@@ -132,9 +130,9 @@ def y_of_the_first_and_last() -> None:
     """The ends of y are taken, as those of x may be, from the first and the last point."""
     right = exact.ends
 
-    def wrong(points: Sequence[Point], metric: Metric) -> Ends:
+    def wrong(points: Sequence[Point]) -> Ends:
         low, high = (points[0].y, points[-1].y) if points else (0, 0)
-        return right(points, metric)._replace(least_y=low, greatest_y=high)
+        return right(points)._replace(least_y=low, greatest_y=high)
 
     exact.ends = wrong
 
@@ -150,7 +148,7 @@ def renewed_by(call: str, number: int) -> Plant:
                 return right(self, x, y, z)
             except exact.Refused as refusal:
                 if refusal.number == number:
-                    self.ends = exact.ends([*self.points(), Point(x, y, z)], self.metric)
+                    self.ends = exact.ends([*self.points(), Point(x, y, z)])
                 raise
 
         setattr(Survey, call, wrong)

@@ -269,9 +269,9 @@ def greatest_values_left_out() -> None:
     """R0 is worked out without the points of the greatest value."""
     right = exact.initial_radius
 
-    def wrong(points: Sequence[Point], metric: Metric) -> int:
+    def wrong(points: Sequence[Point]) -> int:
         greatest = max(values(points))
-        return right([point for point in points if point.z < greatest] or points, metric)
+        return right([point for point in points if point.z < greatest] or points)
 
     exact.initial_radius = wrong
 
@@ -280,9 +280,8 @@ def greatest_values_left_out() -> None:
 def number_of_unlike_values() -> None:
     """R0 counts points of one value once."""
 
-    def wrong(points: Sequence[Point], metric: Metric) -> int:
-        twice = metric.area(exact.twice_area(points))
-        return exact.radius_of_area(twice, len(set(values(points))))
+    def wrong(points: Sequence[Point]) -> int:
+        return exact.radius_of_area(exact.twice_area(points), len(set(values(points))))
 
     exact.initial_radius = wrong
 
@@ -351,7 +350,6 @@ def grid_before_last_change() -> None:
         if call.letter not in "gfp" or kept is None:
             return act(survey, call, lent)
         stale = Survey()
-        stale.metric = survey.metric
         stale.replace([(*at, z) for at, z in kept.items()])
         return act(stale, call, lent)
 

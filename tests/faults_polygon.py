@@ -12,7 +12,7 @@ from exact_survey import Survey
 from faults import Plant, fault
 from metric import Location, Metric
 from outcomes import Outcome
-from surveys import twice_rectangle
+from surveys import rectangle_radius, twice_rectangle
 
 # Twice an area, from the locations by x, then y.
 Area = Callable[[Sequence[Location]], int]
@@ -139,14 +139,9 @@ fault("slopes rounded", "polygon")(by_area(by_sides(cut_by_slopes)))
 # The area or the number of another moment.
 
 
-def radius_with(survey: Survey, twice: int, count: int) -> int:
-    """R0 of another area, at the survey's scales, or of another number."""
-    return exact.radius_of_area(survey.metric.area(twice), count)
-
-
 def with_radius(survey: Survey, twice: int, count: int) -> Ends:
     """A survey's ends, with the R0 of another area or number."""
-    return survey.exact_ends()._replace(initial_radius=radius_with(survey, twice, count))
+    return survey.exact_ends()._replace(initial_radius=exact.radius_of_area(twice, count))
 
 
 @fault("polygon kept over a drop", "polygon")
@@ -195,7 +190,7 @@ def order_of_entry() -> None:
         if not self.values:
             return right(self)
         twice = enclosed(list(self.values))
-        return right(self)._replace(initial_radius=radius_with(self, twice, len(self.values)))
+        return right(self)._replace(initial_radius=exact.radius_of_area(twice, len(self.values)))
 
     Survey.exact_ends = wrong
 
@@ -217,9 +212,9 @@ def change_counted_as_an_add() -> None:
 def corners_counted() -> None:
     """N is the number of the polygon's corners."""
 
-    def wrong(points: Sequence[Point], metric: Metric) -> int:
+    def wrong(points: Sequence[Point]) -> int:
         count = len(exact_polygon.corners(point[:2] for point in points))
-        return exact.radius_of_area(metric.area(exact.twice_area(points)), count)
+        return exact.radius_of_area(exact.twice_area(points), count)
 
     exact.initial_radius = wrong
 
@@ -232,8 +227,7 @@ def rectangle_in_lookups_alone() -> None:
     right = exact.look_up
 
     def wrong(points: Sequence[Point], initial: int, at: Location, metric: Metric) -> Lookup:
-        twice = metric.area(twice_rectangle([point[:2] for point in points]))
-        return right(points, exact.radius_of_area(twice, len(points)), at, metric)
+        return right(points, rectangle_radius([point[:2] for point in points]), at, metric)
 
     exact.look_up = wrong
 
@@ -241,8 +235,7 @@ def rectangle_in_lookups_alone() -> None:
 @fault("rectangle in ends alone", "polygon")
 def rectangle_in_ends_alone() -> None:
     def wrong(self: Survey) -> Outcome:
-        twice = twice_rectangle(list(self.values)) if self.values else 0
-        radius = radius_with(self, twice, max(len(self.values), 1))
+        radius = rectangle_radius(list(self.values)) if self.values else 0
         return Outcome(self.exact_ends()._replace(initial_radius=radius))
 
     Survey.read_ends = wrong

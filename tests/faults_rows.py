@@ -66,21 +66,21 @@ def with_present_radius(survey: Survey, filling: Filling) -> Survey:
 
 def with_present_values(survey: Survey, filling: Filling) -> Survey:
     """The locations of the begin, with the values that are there now."""
-    other, begun = filling.begun.copy(), filling.begun.values.items()
+    other, begun = Survey(), filling.begun.values.items()
     other.replace((*at, survey.values.get(at, z)) for at, z in begun)
     return other
 
 
 def without_dropped(survey: Survey, filling: Filling) -> Survey:
     """The points of the begin that are not dropped since, where there are any."""
-    other, begun = filling.begun.copy(), filling.begun.values.items()
+    other, begun = Survey(), filling.begun.values.items()
     other.replace((*at, z) for at, z in begun if at in survey.values)
     return other if other.values else filling.begun
 
 
 def with_added(survey: Survey, filling: Filling) -> Survey:
     """The points of the begin, and those added since."""
-    other = filling.begun.copy()
+    other = Survey()
     both = survey.values | filling.begun.values
     other.replace((*at, z) for at, z in both.items())
     return other

@@ -15,7 +15,6 @@ import mixed_calls
 import pair_journals
 import polygon_journals
 import row_journals
-import scale_journals
 from grid_inputs import GridInput
 from journals import Journal
 from pair_journals import Pair, Parts
@@ -43,10 +42,6 @@ JOURNALS = (
     ("rows", row_journals.row_journal, 96),
     ("free rows", row_journals.free_row_journal, 90),
     ("widest rows", row_journals.widest_row_journal, 2),
-    ("scales", scale_journals.scales_journal, 84),
-    ("scaled lookups", scale_journals.scaled_lookup_journal, 60),
-    ("scaled full survey", scale_journals.full_scale_journal, 4),
-    ("scaled examples", scale_journals.scaled_example_journal, 2),
 )
 GRID_INPUTS = (
     ("whole case", grid_inputs.whole_case, 2),
@@ -62,7 +57,6 @@ PAIRS = (
     ("pairs of midpoints", pair_journals.midpoint_pair, 60),
     ("pairs of free answers", pair_journals.free_pair, 60),
     ("pairs of grids", pair_journals.grid_pair, 48),
-    ("pairs at scales", pair_journals.scaled_pair, 36),
 )
 
 

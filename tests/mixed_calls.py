@@ -31,8 +31,6 @@ from random_calls import (
     lent_about,
     lookup_call,
     row_call,
-    scales_call,
-    wrong_scales,
 )
 
 WRONG_VALUES = (-129, 128, 255, 256, 300, -256, 2**31 - 1, -(2**31))
@@ -122,10 +120,6 @@ def mixed_row(rng: Random, scene: Scene) -> Call:
     return row_call(rng, scene.survey)
 
 
-def mixed_scales(rng: Random, scene: Scene) -> Call:
-    return scales_call(rng)
-
-
 class Generator(NamedTuple):
     """How often a call comes, what makes it, and whether only every other list has it."""
 
@@ -148,13 +142,12 @@ GENERATORS = {
     "p": Generator(2, mixed_esri),
     "b": Generator(2, mixed_begin),
     "r": Generator(5, mixed_row),
-    "s": Generator(2, mixed_scales),
     "k": Generator(1, mixed_clear, seldom=True),
 }
 
 
 def follow(survey: Survey, call: Call) -> None:
-    """Do what a call does to the points present, to the scales and to the grid being filled."""
+    """Do what a call does to the points present and to the grid being filled."""
     with suppress(exact.Refused):
         if call.operation.followed:
             protocol.perform(survey, call)
@@ -169,7 +162,6 @@ def calls_on_none(rng: Random) -> list[Call]:
     calls += [Call("p", (*maker(rng), 0)) for maker in (like_grid, unlike_grid)]
     calls += [Call("b", maker(rng)) for maker in (improper_grid, proper_grid)]
     calls += [Call("r", (lent,)) for lent in (0, 64)]
-    calls += [Call("s", wrong_scales(rng)) for _ in range(2)]
     return rng.sample(calls, 5)
 
 

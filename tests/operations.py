@@ -25,7 +25,6 @@ class Field(NamedTuple):
 
 
 X, Y, Z = Field("x", "I"), Field("y", "I"), Field("z", "i")
-P, Q = Field("p", "I"), Field("q", "I")
 SIX = Field("grid", "H", 6, Grid)
 
 
@@ -46,8 +45,7 @@ class Operation(NamedTuple):
     """A call; `counted` is the name under which its accepted calls are counted, if they are.
 
     What a call fills is bytes, cells or records; of bytes, `text` tells that they are lines.
-    An accepted call `alters` the points present or the scales, or `fills`: it alters the grid
-    being filled.
+    An accepted call `alters` the points present, or `fills`: it alters the grid being filled.
     """
 
     letter: str
@@ -98,6 +96,5 @@ TABLE = (
     Operation("p", "esri text", (SIX,), "wrote", BYTES, text=True, counted="esri texts"),
     Operation("b", "begin grid", (SIX,), "ok", fills=True, counted="begins"),
     Operation("r", "next row", (), "row", CELLS, fills=True, counted="rows"),
-    Operation("s", "set scales", (P, Q), "ok", alters=True, counted="scales"),
 )
 BY_LETTER = {operation.letter: operation for operation in TABLE}

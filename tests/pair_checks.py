@@ -28,8 +28,8 @@ def survey_after(calls: Iterable[Call]) -> Survey:
 
 
 def altered_locations(one: Survey, other: Survey) -> set[Location]:
-    """Where the values differ; the two surveys have the same locations and scales."""
-    assert (one.values.keys(), one.metric) == (other.values.keys(), other.metric)
+    """Where the values differ; the two surveys have the same locations."""
+    assert one.values.keys() == other.values.keys()
     return {at for at, z in one.values.items() if z != other.values[at]}
 
 

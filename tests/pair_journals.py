@@ -19,9 +19,9 @@ from exact_files import Grid
 from exact_survey import Survey
 from grids import Numbers, Side, grid_of
 from journals import Journal
-from metric import PLAIN, Location, Metric
+from metric import PLAIN, Location
 from protocol import Call
-from random_calls import entry, scales_call, some_scales
+from random_calls import entry
 
 # The calls to one survey, those to the other, and the questions that follow both.
 Parts = tuple[list[Call], list[Call], list[Call]]
@@ -30,7 +30,7 @@ TEXT_HEAD, TEXT_CELL = 90, 14
 
 
 class Pair(NamedTuple):
-    """Two lists of calls that leave the same locations and scales, and what is asked after each."""
+    """Two lists of calls that leave points at the same locations, and what is asked after each."""
 
     kind: str
     one: list[Call]
@@ -202,20 +202,16 @@ def grid_at(rng: Random, at: Location) -> Numbers:
     return grid_of(side_at(rng, at[0], step), side_at(rng, at[1], step))
 
 
-def chosen_at(
-    points: Sequence[Point], locations: Iterable[Location], metric: Metric = PLAIN
-) -> list[set[Location]]:
+def chosen_at(points: Sequence[Point], locations: Iterable[Location]) -> list[set[Location]]:
     """The locations of the neighbours at each location."""
-    present, initial = sorted(points), exact.initial_radius(points, metric)
-    chosen = [exact.choose(present, initial, at, metric)[0] for at in locations]
+    present, initial = sorted(points), exact.initial_radius(points)
+    chosen = [exact.choose(present, initial, at, PLAIN)[0] for at in locations]
     return [{candidate[:2] for candidate in each} for each in chosen]
 
 
-def never_chosen(
-    points: Sequence[Point], locations: Iterable[Location], metric: Metric = PLAIN
-) -> list[Location]:
+def never_chosen(points: Sequence[Point], locations: Iterable[Location]) -> list[Location]:
     """The locations of the points that are neighbours nowhere."""
-    chosen = set().union(*chosen_at(points, locations, metric))
+    chosen = set().union(*chosen_at(points, locations))
     return sorted({point[:2] for point in points} - chosen)
 
 
@@ -305,32 +301,6 @@ def free_pair(rng: Random, index: int) -> Parts:
     asked = lookups_among(rng, locations, altered)
     asked += grids_with(rng, grid_at(rng, locations[0]))
     return *ways_to(rng, index, points, altered), asked
-
-
-def with_scales(rng: Random, calls: Sequence[Call], metric: Metric) -> list[Call]:
-    """The calls with scales set among them, at times early, and those wanted left at the end."""
-    made, survey = list(calls), Survey()
-    for early in rng.choice(([], [Call("s", metric)], [scales_call(rng), scales_call(rng)])):
-        made.insert(rng.randint(0, len(made)), early)
-    for call in made:
-        mixed_calls.follow(survey, call)
-    return made if survey.metric == metric else [*made, Call("s", metric)]
-
-
-def scaled_pair(rng: Random, index: int) -> Parts:
-    """Free answers at scales, which the two surveys come to in unlike ways."""
-    points, aimed = survey_with_five(rng, index)
-    metric = Metric(*some_scales(rng))
-    near = [surveys.location_near(rng, points) for _ in range(6)]
-    tried = rng.sample(aimed, min(len(aimed), 4)) + near
-    points, locations = pair_surveys.freed(rng, points, tried, 3, metric)
-    locations = locations or [rng.choice(tried)]
-    unchosen = never_chosen(points, locations, metric)
-    altered = some_of(rng, unchosen) if unchosen else [points[0][:2]]
-    asked = lookups_among(rng, locations, altered)
-    asked += grids_with(rng, grid_at(rng, locations[0]))
-    one, other = ways_to(rng, index, points, altered)
-    return with_scales(rng, one, metric), with_scales(rng, other, metric), asked
 
 
 def grid_over(rng: Random, points: Sequence[Point]) -> Numbers:

@@ -10,7 +10,7 @@ from typing import NamedTuple
 import exact
 import surveys
 from exact import GREATEST_VALUE, LEAST_VALUE, Lookup, Neighbour, Point
-from metric import PLAIN, Location, Metric, Offset
+from metric import PLAIN, Location, Offset
 from surveys import Made, gather
 
 # About one in 128 draws of values is free.
@@ -45,8 +45,8 @@ GROUPS = ((3, 5), (2, 6), (3, 5), (1, 9))
 APART = 160
 
 
-def survey_lookup(points: Sequence[Point], at: Location, metric: Metric = PLAIN) -> Lookup:
-    return exact.look_up(sorted(points), exact.initial_radius(points, metric), at, metric)
+def survey_lookup(points: Sequence[Point], at: Location) -> Lookup:
+    return exact.look_up(sorted(points), exact.initial_radius(points), at, PLAIN)
 
 
 def is_free(lookup: Lookup) -> bool:
@@ -159,14 +159,12 @@ def crowd(rng: Random) -> Made:
     return locations, [draw() for _ in range(6)]
 
 
-def free_values(
-    rng: Random, lookup: Lookup, at: Location, least: int, metric: Metric
-) -> list[int] | None:
+def free_values(rng: Random, lookup: Lookup, at: Location, least: int) -> list[int] | None:
     """Values for the neighbours that leave the answer free, if some are found."""
     neighbours = lookup.neighbours
     if all(each.kind in (exact.COINCIDENT, exact.EDGE) for each in neighbours):
         return None
-    weights = exact.weights(neighbours, lookup.radius, at, metric)
+    weights = exact.weights(neighbours, lookup.radius, at, PLAIN)
     total = sum(weights)
     for _ in range(TRIES):
         values = [some_value(rng, least) for _ in neighbours]
@@ -181,11 +179,7 @@ def locations_of(neighbours: Iterable[Neighbour]) -> set[Location]:
 
 
 def freed(
-    rng: Random,
-    at_first: Iterable[Point],
-    locations: Iterable[Location],
-    most: int,
-    metric: Metric = PLAIN,
+    rng: Random, at_first: Iterable[Point], locations: Iterable[Location], most: int
 ) -> tuple[list[Point], list[Location]]:
     """The points with values of a band, and up to so many locations whose answers are free.
 
@@ -198,12 +192,12 @@ def freed(
     taken: set[Location] = set()
     kept: list[Location] = []
     for at in locations:
-        lookup = survey_lookup(points, at, metric)
+        lookup = survey_lookup(points, at)
         chosen = locations_of(lookup.neighbours)
         room = len(points) // 2 if kept else len(points) - 1
         if len(kept) == most or taken & chosen or len(taken | chosen) > room:
             continue
-        found = free_values(rng, lookup, at, least, metric)
+        found = free_values(rng, lookup, at, least)
         if found is not None:
             values |= zip((each[:2] for each in lookup.neighbours), found)
             taken |= chosen

@@ -26,7 +26,6 @@ KINDS = (
     surveys.thin,
     surveys.uniform,
     surveys.line,
-    surveys.thin,
     surveys.lattice,
 )
 POOLS = (3, 4, 6, 12, 40)
@@ -98,7 +97,7 @@ def change(rng: Random, scene: Scene) -> Call:
 MAKERS = (add_outside,) * 3 + (add_inside,) * 2 + (add_on_edge,) * 3
 MAKERS += (add_on_prolonged_edge,) * 2 + (add_near,) + (change,) * 2
 MAKERS += (drop_corner,) * 5 + (drop_other,) * 2
-MAKERS += (ends_journals.refused, mixed_calls.mixed_load, mixed_calls.mixed_scales)
+MAKERS += (ends_journals.refused, mixed_calls.mixed_load)
 
 
 def polygon_journal(rng: Random, index: int) -> list[Call]:

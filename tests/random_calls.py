@@ -1,4 +1,4 @@
-"""Makes random calls: lookups, grids, rows, texts, scales, and those that bring given points."""
+"""Makes random calls: lookups, grids, rows, texts, and those that bring given points."""
 
 from __future__ import annotations
 
@@ -24,8 +24,6 @@ ANY_GRID = 2 * 64 * 64 + 20
 # origin with four digits and a step with two.
 SHORTEST_TEXT = 81
 LONGEST_TEXT = 79 + 64 * 64 * 14
-# No scales, though some are in their low 3, 4, 8, 16 or 31 bits.
-WRONG_SCALES = (0, 9, 2**32 - 1, 10, 15, 16, 17, 256, 257, 264, 65_537, 2**31 + 1)
 
 
 def lookup_call(rng: Random, location: Location) -> Call:
@@ -90,24 +88,6 @@ def row_call(rng: Random, survey: Survey) -> Call:
     if rng.randrange(30) == 0:
         return Call("r", (CELLS.most,))
     return Call("r", (lent_about(rng, columns, CELLS.most),))
-
-
-def some_scales(rng: Random) -> tuple[int, int]:
-    """Two that differ, most often; or any, or each the least or the greatest."""
-    unlike, any_two = rng.sample(range(1, 9), 2), rng.choices(range(1, 9), k=2)
-    p, q = rng.choice((unlike, unlike, any_two, rng.choices((1, 8), k=2)))
-    return p, q
-
-
-def wrong_scales(rng: Random) -> tuple[int, int]:
-    """p is no scale, or q, or both."""
-    wrong, other, scale = rng.choice(WRONG_SCALES), rng.choice(WRONG_SCALES), rng.randint(1, 8)
-    return rng.choice(((wrong, scale), (scale, wrong), (wrong, other)))
-
-
-def scales_call(rng: Random) -> Call:
-    """Accepted, most often."""
-    return Call("s", rng.choice((some_scales, some_scales, some_scales, wrong_scales))(rng))
 
 
 def esri_length(survey: Survey, numbers: Numbers) -> int:

@@ -14,7 +14,6 @@ from exact import Point
 from exact_files import Grid
 from exact_survey import Survey
 from journals import Journal
-from metric import Metric
 from programs import Run, excerpt
 from protocol import Call
 
@@ -22,10 +21,9 @@ REFUSED = "refused"
 
 
 class Row(NamedTuple):
-    """A row of a grid, and the points and scales it is of: what settles its cells."""
+    """A row of a grid and the points it is of: what settles its cells."""
 
     points: tuple[Point, ...]
-    metric: Metric
     grid: Grid
     number: int
 
@@ -61,20 +59,18 @@ def rows_that_came(journal: Journal, run: Run) -> Iterator[Came]:
         if call.operation.alters:
             mixed_calls.follow(survey, call)
         if call.letter == "b":
-            begun = tuple(survey.points()), survey.metric, Grid(*call.numbers)
+            begun = tuple(survey.points()), Grid(*call.numbers)
         elif call.letter == "g":
             points, grid = tuple(survey.points()), Grid(*call.numbers[:6])
             for number in range(grid.rows):
-                row = Row(points, survey.metric, grid, number)
-                yield Came(row, cells_of(lent, grid, number), at, False)
+                yield Came(Row(points, grid, number), cells_of(lent, grid, number), at, False)
         elif call.letter == "r" and begun:
             number = int(reply.split(" ")[1])
-            yield Came(Row(*begun, number), cells_of(lent, begun[2], 0), at, True)
+            yield Came(Row(*begun, number), cells_of(lent, begun[1], 0), at, True)
 
 
 def count_held(counts: Counter[str], row: Row) -> None:
     survey = Survey()
-    survey.metric = row.metric
     survey.replace(row.points)
     lookups = survey.exact_row(row.grid, row.number)
     counts["held row cells"] += len(lookups)

@@ -22,16 +22,7 @@ from metric import Location
 from mixed_calls import Scene
 from operations import CELLS
 from protocol import Call
-from random_calls import (
-    ANY_SURVEY,
-    entry,
-    grid_calls,
-    lookup_call,
-    row_call,
-    some_scales,
-    with_ends,
-    wrong_scales,
-)
+from random_calls import ANY_SURVEY, entry, grid_calls, lookup_call, row_call, with_ends
 
 # How many points are present at first: those about which the choice changes, and many.
 SIZES = (11, 5, 4, 1, 256, 12, 200, 30)
@@ -124,10 +115,6 @@ def load(rng: Random, scene: Scene) -> list[Call]:
     return [protocol.load(damage.sound_file(rng, rng.choice((other, some, other, some, []))))]
 
 
-def scales(rng: Random, scene: Scene) -> list[Call]:
-    return [Call("s", some_scales(rng))]
-
-
 def load_again(rng: Random, scene: Scene) -> list[Call]:
     """The points that were there at first."""
     return [protocol.load(damage.sound_file(rng, scene.pool))]
@@ -152,10 +139,6 @@ def refused_edit(rng: Random, scene: Scene) -> list[Call]:
 def refused_load(rng: Random, scene: Scene) -> list[Call]:
     file = damage.damage(rng, damage.random_preamble(rng), damage.few_points(rng))
     return [protocol.load(rng.choice((file, b"", damage.sound_file(rng, scene.pool)[:-1])), True)]
-
-
-def refused_scales(rng: Random, scene: Scene) -> list[Call]:
-    return [Call("s", wrong_scales(rng))]
 
 
 def refused_begin(rng: Random, scene: Scene) -> list[Call]:
@@ -190,9 +173,9 @@ def grid(rng: Random, scene: Scene) -> list[Call]:
     return [rng.choice((same, same, *grid_calls(rng, other), text))]
 
 
-EDITS: tuple[Maker, ...] = (change, add, drop, load, scales, clear, load_again)
+EDITS: tuple[Maker, ...] = (change, add, drop, load, clear, load_again)
 OTHERS: tuple[Maker, ...] = (refused_edit, refused_edit, refused, refused_load, refused_begin)
-OTHERS += (lookup, grid, grid, question, refused_scales)
+OTHERS += (lookup, grid, question)
 
 
 def between(rng: Random, scene: Scene, edits: Sequence[Maker]) -> list[Call]:
@@ -239,7 +222,7 @@ def filled(
 def after_the_last(rng: Random, scene: Scene) -> list[Call]:
     """Rows lent none and enough, behind a begin that is refused at times and behind an edit."""
     calls = played(scene, [row_call(rng, scene.survey), Call("r", (0,))])
-    makers = (refused_begin, cleared_begin, cleared_begin, change, load_again, lookup)
+    makers = (refused_begin, cleared_begin, change, load_again, lookup)
     calls += played(scene, rng.choice(makers)(rng, scene))
     return calls + played(scene, [whole_row(rng, scene)])
 
@@ -306,7 +289,7 @@ def free_row_journal(rng: Random, index: int) -> list[Call]:
     scene = Scene(points, Survey())
     calls = played(scene, entry(rng, points))
     made = Call("g", (*numbers, numbers[4] * numbers[5]))
-    for edits in (EDITS, EDITS[: rng.randint(1, 6)]):
+    for edits in (EDITS, EDITS[: rng.randint(1, 5)]):
         calls += [made, *filled(rng, scene, numbers, numbers[5], edits)]
         calls += played(scene, load_again(rng, scene))
     return [*calls, made]

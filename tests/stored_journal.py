@@ -198,49 +198,10 @@ def full_rows() -> list[Call]:
     return [*calls, *loads(damage.assemble(b"", PAIR)), *fill(65), Call("e")]
 
 
-def scales() -> list[Call]:
-    """18 for either and for both, on no points too; the ends of the range; corner to corner."""
-    wrong = ((0, 1), (1, 0), (9, 1), (1, 9), (0, 9), (2**32 - 1, 1), (1, 2**32 - 1), (257, 264))
-    calls = [Call("k"), *with_ends(calls_of("s", (2, 3), *wrong)), Call("q", (0, 0))]
-    calls += [Call("a", (4095, 4095, 1)), Call("n", (0, 0, 10))]
-    for each in ((8, 8), (8, 1), (1, 8), (1, 1)):
-        calls += [Call("s", each), Call("n", (0, 0, 10))]
-    calls += [Call("k"), *calls_of("a", *FIVE)]
-    for each in ((2, 1), (1, 3), (8, 8), (3, 5)):
-        calls += [Call("s", each), Call("e"), Call("n", (100, 100, 10))]
-    return [*calls, *calls_of("s", *wrong), Call("q", (100, 100)), Call("e")]
-
-
-def scales_kept_and_lost() -> list[Call]:
-    """Every other call keeps them; an accepted clear or load, also of the same points, does not."""
-    asked, three = [Call("q", (5, 5)), Call("e")], ((0, 0, 0), (0, 10, 90), (10, 0, 10))
-    own = damage.assemble(b"", damage.records_of(three))
-    calls = [Call("k"), Call("s", (2, 3)), *calls_of("a", *three), *asked]
-    for each in (Call("c", (0, 10, -90)), *calls_of("a", (5, 6, 1), (0, 0, 1)), Call("d", (5, 6))):
-        calls += [each, *asked]
-    calls += [Call("c", (0, 10, 90)), Call("w", (27,)), *asked]
-    for each in (*loads(own[:-1], own), Call("s", (3, 2)), Call("k")):
-        calls += [each, *asked]
-    return [*calls, *calls_of("a", *three), *asked]
-
-
-def grids_at_scales() -> list[Call]:
-    """Grids, files and texts; rows at the scales of their begin."""
-    six = (0, 0, 3, 3, 3, 3)
-    calls = [Call("k"), *calls_of("a", (0, 0, 0), (9, 0, 90), (0, 9, -90))]
-    for each in ((3, 1), (1, 3), (8, 8)):
-        calls += [Call("s", each), Call("g", (*six, 9)), Call("f", (*six, 38))]
-        calls += [Call("p", (*six, 190))]
-    calls += [Call("s", (3, 1)), Call("b", six), Call("s", (1, 3)), *fill(3), Call("s", (9, 3))]
-    calls += [*fill(3), Call("q", (3, 3)), Call("b", IMPROPER), Call("k"), *fill(3, 3)]
-    return [*calls, *loads(full_file()), Call("s", (8, 8)), Call("e"), Call("n", (2000, 2000, 10))]
-
-
 def make() -> journals.Journal:
     calls = [Call("e")] + on_none() + on_two() + files() + on_full() + rows() + within_radius()
     calls += grids() + esri_texts() + ends() + polygon() + far_off()
     calls += begins() + edits_between_rows() + begun_anew() + full_rows()
-    calls += scales() + scales_kept_and_lost() + grids_at_scales()
     return journals.Journal("stored", calls, BAD_END)
 
 

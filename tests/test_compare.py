@@ -45,7 +45,7 @@ FAKES = str(pathlib.Path(__file__).with_name("fakes.py"))
 SOUND_PART, FAULTY_PART = 16, 4
 SECONDS = 20
 SHORT_SECONDS = 2
-FEWEST_FAULTS = 325
+FEWEST_FAULTS = 236
 ESRI_KINDS = ("esri texts", "widest esri texts", "free lengths")
 ENDS_KINDS = ("ends", "polygon")
 # What each call can be refused with.
@@ -62,7 +62,6 @@ REFUSALS = {
     "esri text": (7, 16, 6, 8),
     "begin grid": (7, 6),
     "next row": (17, 8),
-    "set scales": (18,),
 }
 
 

@@ -442,7 +442,7 @@ class Ends(RefusalCase):
         self.assert_ends(survey, 0, 4095, 0, 254, -128, 126, 17_223)
 
     def test_after_every_call(self) -> None:
-        """They are those of a fresh survey with the scales, to which the same points were added."""
+        """They are those of a fresh survey to which the same points were added."""
         rng = Random(19)
         compared = 0
         for index in range(len(surveys.KINDS)):
@@ -450,10 +450,7 @@ class Ends(RefusalCase):
             for call in mixed_calls.mixed_journal(rng, index):
                 with contextlib.suppress(exact.Refused):
                     protocol.perform(survey, call)
-                again = Survey()
-                again.set_scales(*survey.metric)
-                for point in reversed(survey.points()):
-                    again.add(*point)
+                again = survey_of(reversed(survey.points()))
                 self.assert_ends(survey, *again.read_ends().numbers)
                 compared += 1
         self.assertGreater(compared, 500)

@@ -12,7 +12,7 @@ from struct import pack
 import exact
 import exact_files
 import exact_survey
-from metric import PLAIN, Metric
+from metric import PLAIN
 from outcomes import options, preferred
 
 TEXT = (Path(__file__).parent.parent / "docs" / "METHOD.md").read_text("utf-8")
@@ -373,38 +373,6 @@ class NoSay(unittest.TestCase):
         self.assertEqual(in_floats(lookup, self.LOCATION, least), 12)
         self.assertEqual(in_floats(lookup, self.LOCATION, -126), 11)
         self.assertIn("would give 11 where that value is -126", prose(self.TITLE))
-
-
-class Scales(unittest.TestCase):
-    """The example of two points at four pairs of scales, and the longest distance."""
-
-    TITLE = "Scales"
-
-    def setUp(self) -> None:
-        said = re.findall(r"\((\d+), (\d+)\) with (?:value )?(\d+)", prose(self.TITLE))
-        self.points = sorted(exact.Point(*map(int, each)) for each in said)
-        self.assertEqual(len(self.points), 2)
-
-    def test_table(self) -> None:
-        rows = tables(self.TITLE)[0][1:]
-        self.assertEqual(len({tuple(row[:2]) for row in rows}), 4)
-        for row in rows:
-            metric = Metric(int(row[0]), int(row[1]))
-            initial = exact.initial_radius(self.points, metric)
-            lookup = exact.look_up(self.points, initial, (0, 0), metric)
-            away = {each[:2]: each.distance for each in lookup.neighbours}
-            first = tuple(map(int, NUMBER.findall(row[2])))
-            self.assertEqual(lookup.neighbours[0][:2], first)
-            self.assertEqual(numbers(row[3:5]), [away[3, 0], away[0, 5]])
-            top, bottom = map(number, row[5].split("/"))
-            self.assertEqual(lookup.mean, top / bottom)
-            self.assertEqual(list(exact.permitted_answers(lookup)), [number(row[6])])
-
-    def test_longest(self) -> None:
-        corner = exact.GREATEST_COORDINATE
-        squared = Metric(8, 8).squared_distance((0, 0), (corner, corner))
-        sentence = f"d² is {squared:,} and D {exact.distance(squared):,}."
-        self.assertIn(sentence, prose(self.TITLE))
 
 
 class Rows(unittest.TestCase):

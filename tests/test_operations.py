@@ -24,11 +24,11 @@ class Table(unittest.TestCase):
         self.assertEqual(set(GENERATORS), set(BY_LETTER))
 
     def test_calls_that_are_followed(self) -> None:
-        """Edits alter the points or the scales, begins and rows the grid being filled; the others ask."""
+        """Edits alter the points, begins and rows the grid being filled; all others only ask."""
         alters = "".join(each.letter for each in TABLE if each.alters)
         fills = "".join(each.letter for each in TABLE if each.fills)
-        self.assertEqual((alters, fills), ("acdkls", "br"))
-        self.assertEqual("".join(each.letter for each in TABLE if each.followed), "acdklbrs")
+        self.assertEqual((alters, fills), ("acdkl", "br"))
+        self.assertEqual("".join(each.letter for each in TABLE if each.followed), "acdklbr")
 
     def test_encoded_and_decoded(self) -> None:
         for operation in TABLE:

@@ -24,7 +24,7 @@ from exact_survey import Survey
 from fakes import FAULTS
 from grid_inputs import GridInput
 from journals import Journal
-from metric import Location
+from metric import PLAIN, Location
 from pair_journals import Pair
 from programs import Run
 from protocol import Call
@@ -49,7 +49,7 @@ class Asked(NamedTuple):
         return pair_checks.unaltered_at(self.survey, self.at, self.altered)
 
     def first_left_out(self) -> exact.Ordered:
-        ordered = exact.in_order(self.survey.points(), self.at, self.survey.metric)
+        ordered = exact.in_order(self.survey.points(), self.at, PLAIN)
         return ordered[len(self.lookup().neighbours)]
 
 
@@ -175,7 +175,7 @@ class Making(unittest.TestCase):
             lookup, initial = each.lookup(), each.survey.exact_ends().initial_radius
             within = sum(
                 exact.distance(ordered[0]) <= initial
-                for ordered in exact.in_order(each.survey.points(), each.at, each.survey.metric)
+                for ordered in exact.in_order(each.survey.points(), each.at, PLAIN)
             )
             rule = 3 if within <= 4 else 4 if within <= 10 else 5
             rule = 1 if lookup.neighbours[0].kind == exact.COINCIDENT else rule
@@ -196,7 +196,7 @@ class Making(unittest.TestCase):
             if (x, y) in each.altered:
                 met["fifth"] += count == 4
                 met["eleventh"] += count == 10 and lookup.radius != initial
-                tied = squared == each.survey.metric.squared_distance(each.at, last[:2])
+                tied = squared == PLAIN.squared_distance(each.at, last[:2])
                 met["tied by x"] += tied and last.x < x
                 met["tied by y"] += tied and last.x == x
                 met["at R"] += exact.distance(squared) == lookup.radius
@@ -391,7 +391,7 @@ class Needed(unittest.TestCase):
                 survey = pair_checks.survey_after(calls)
                 look_up = faults_pairs.float_look_up(exact.look_up, origin)
                 initial = survey.exact_ends().initial_radius
-                found = look_up(survey.points(), initial, each.at, survey.metric)
+                found = look_up(survey.points(), initial, each.at, PLAIN)
                 answers.add(exact.nearest_answer(found))
             unlike += len(answers) > 1
         self.assertGreater(20 * unlike, free)

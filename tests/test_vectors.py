@@ -18,7 +18,7 @@ from operations import BY_LETTER
 from programs import Run
 
 FAKES = str(Path(__file__).with_name("fakes.py"))
-FEWEST_ROWS = 1380
+FEWEST_ROWS = 1000
 TWO = "two points\nadd 3 0 0: ok\nadd 6 0 90: ok\n"
 LOOKUP = "lookup 0 0: found 4608 2 0\n"
 HEADER = "  ncols 1\n  nrows 1\n  xllcenter 3\n  yllcenter 0\n  cellsize 1\n  NODATA_value -9999\n"
@@ -103,16 +103,6 @@ class Rows(unittest.TestCase):
         self.assertEqual(vectors.differences(TWO + begin + "\nthen more\n" + row, []), [])
         self.assert_wrong(begin + "\nanother\n" + row, "refused 17")
 
-    def test_scales(self) -> None:
-        """Two points in one direction are weighed alike at all of them; aside of it they are not."""
-        scales, aside = "set scales 2 1: ok\n", "lookup 0 1: found 4688 2 0\n"
-        self.assertEqual(vectors.differences(TWO + scales + LOOKUP + aside, []), [])
-        self.assertEqual(vectors.differences(TWO + "set scales 1 1 to 8 8: ok\n" + LOOKUP, []), [])
-        self.assert_wrong("set scales 9 1: ok\n", "came set scales 9 1: refused 18")
-        self.assert_wrong("set scales 7 7 to 9 9: ok\n", "came set scales 7 7 to 9 9: refused 18")
-        self.assert_wrong(scales.replace("2 1", "1 2") + aside, "came lookup 0 1: found 5692 2 0")
-        self.assert_wrong(aside, "came lookup 0 1: found 4912 2 0")
-
     def test_another_survey(self) -> None:
         """A section without "then" starts from a fresh survey."""
         self.assert_wrong("\nanother\n" + LOOKUP, "came lookup 0 0: refused 6")
@@ -153,14 +143,6 @@ class Rows(unittest.TestCase):
             "next row into",
             "next row 1 into 2",
             "next row into 8193",
-            "set 1 1",
-            "set scales",
-            "set scales 1",
-            "set scales 1 1 1",
-            "set scales 1 -1",
-            "set scales 1 4294967296",
-            "set scales 1 1 to 8 3",
-            "set scales 1 1 into 2",
         )
         for left in wrong:
             with self.subTest(left=left):

@@ -12,7 +12,6 @@ use Rattle.model.specs.Answer.{answer}
 use Rattle.model.specs.Fraction.{Is}
 use Rattle.model.specs.Examples.{StarredRows, closed_rows}
 use Rattle.laws.proofs.RecordLaws.{domain_bounds}
-use Rattle.laws.proofs.ScaleLaws.{unscaled_in_range}
 use Rattle.laws.proofs.ChosenLaws.{chosen_all}
 use Rattle.laws.proofs.ExtentLaws.{kept_most}
 use Rattle.laws.proofs.OnePoint.{one_point_mean, one_point}
@@ -31,10 +30,9 @@ one_point_row : OnePointRow
 one_point_row x y p h g =
     let asked : LookupInRange (alone x y) p = record {
       domain = domain_bounds p.x p.y g;
-      scaled = unscaled_in_range;
       some = omega arith;
       inside = (domain_bounds x y h, tt);
-      kept = kept_most (alone x y).contents unscaled_in_range (domain_bounds x y h, tt);
+      kept = kept_most (alone x y).contents (domain_bounds x y h, tt);
       values = chosen_all (alone x y) p (λ a. in_range a.z ≡ true) (refl, tt);
     } in
     let right = answer_right (alone x y) p asked in

@@ -15,7 +15,6 @@ use Rattle.model.specs.Influence.{influence_at, inverse, tapered, edge}
 use Rattle.model.specs.Influence as influence
 use Rattle.model.specs.Weight.{neighbourhood_of, neighbourhood}
 use Rattle.model.specs.Mean.{least_chosen}
-use Rattle.model.specs.Invariant.{ScalesInRange}
 use Rattle.laws.proofs.ListLaws.{all_below}
 use Rattle.laws.proofs.ValueLaws.{least_all, least_keeps, above, spread}
 use Rattle.laws.proofs.ChosenLaws.{Inside, chosen_all, chosen_some, chosen_most, chosen_apart, point_most, chosen_radius}
@@ -34,10 +33,9 @@ proper few r d D d' r' = go (eqb d 0) few (leb (3 * d) r) (ltb d r) refl
     go false false false true e = (ltb-true d r e, r')
     go false false false false e = tt
 
--- what a lookup goes by: a location in the domain, scales from 1 to 8, one point or more, in the domain, whose values are in range where they are chosen, and a kept R0 of at most 2²⁴, as points in the domain have
+-- what a lookup goes by: a location in the domain, one point or more, in the domain, whose values are in range where they are chosen, and a kept R0 of at most 2²⁴, as points in the domain have
 pub record LookupInRange (s : State) (p : Location) : Type 0 where
   pub domain : (p.x < 4096) × (p.y < 4096)
-  pub scaled : ScalesInRange s.contents.metric
   pub some : 0 < length s.contents.points
   pub inside : All Inside s.contents.points
   pub kept : s.extent.radius ≤ 2 ^ 24
@@ -51,19 +49,19 @@ module _ (s : State) (p : Location) (A : LookupInRange s p) where
   chosen_inside i l = all_below Inside (choice s p).points i no_point (chosen_all s p Inside A.inside) l
 
   chosen_far : (i : ℕ) → i < length (choice s p).points → distance s p (chosen i) ≤ 2 ^ 24
-  chosen_far i l = point_most s A.scaled p A.domain (chosen i) (chosen_inside i l)
+  chosen_far i l = point_most s p A.domain (chosen i) (chosen_inside i l)
 
   module _ (apart : coincident s p ≡ false) where
     chosen_off : (i : ℕ) → i < length (choice s p).points → 0 < distance s p (chosen i)
-    chosen_off i l = all_below (λ a. 0 < distance s p a) (choice s p).points i no_point (chosen_apart s A.scaled p apart) l
+    chosen_off i l = all_below (λ a. 0 < distance s p a) (choice s p).points i no_point (chosen_apart s p apart) l
 
     pub neighbourhood_fair : Fair (neighbourhood s p)
     unfolding neighbourhood neighbourhood_of
     neighbourhood_fair = record {
       some = chosen_some s p A.some;
       most = chosen_most s p;
-      influences = λ i l. proper (few s) (choice s p).radius (distance s p (chosen i)) (chosen_off i l) (chosen_far i l) (chosen_radius s A.scaled p A.domain A.inside A.kept);
-      excesses = λ i j k l. excess_most s A.scaled p A.domain (chosen i) (chosen j) (chosen_inside i k) (chosen_inside j l) (chosen_far i k) (chosen_far j l);
+      influences = λ i l. proper (few s) (choice s p).radius (distance s p (chosen i)) (chosen_off i l) (chosen_far i l) (chosen_radius s p A.domain A.inside A.kept);
+      excesses = λ i j k l. excess_most s p A.domain (chosen i) (chosen j) (chosen_inside i k) (chosen_inside j l) (chosen_far i k) (chosen_far j l);
       products = λ i j k l. (mul-pos (chosen_off i k) (chosen_off j l), mul-le-mul (chosen_far i k) (chosen_far j l));
     }
 

@@ -1,25 +1,22 @@
 -- The ends of points, of one and of one more, and the extent from them.
 use mathlib.Core.Path.{◌≡◌, sym, ap, ◌∙◌}
-use Prim.Native.Nat.{ℕ, ◌+◌, ◌*◌, ◌^◌, ◌%◌, ◌≤◌, ◌<◌, min, max}
+use Prim.Native.Nat.{ℕ, ◌+◌, ◌-◌, ◌^◌, ◌%◌, ◌≤◌, ◌<◌, min, max}
 use native.Mathlib.Omega.{arith}
 use mathlib.Core.List.{List, [], ◌∷◌, ◌++◌, map, map-append}
 use lib.IntN.{ℤ, pos}
 use lib.ListN.{length, get_or, length-map}
 use Rattle.model.specs.Lists.{tabulate, through}
-use Rattle.model.specs.Point.{Point, Contents, Extent as Kept, point}
+use Rattle.model.specs.Point.{Point, Extent as Kept, contents_of, point}
 use Rattle.model.specs.Polygon.{enclosed}
-use Rattle.model.specs.Radius.{locations, twice_area, radius_of, initial_radius}
-use Rattle.model.specs.Extent.{lesser, greater, zeros, extent_of, values_by}
+use Rattle.model.specs.Radius.{twice_area, radius_of, initial_radius}
+use Rattle.model.specs.Extent.{lesser, greater, extent_of, values_by}
 use Rattle.laws.proofs.ThroughLaws.{through_last}
 use Rattle.laws.proofs.ValueLaws.{values_last}
-use Rattle.laws.proofs.ExtentLaws.{ends_none, enclosed_points, twice_most, kept_most}
+use Rattle.laws.proofs.ExtentLaws.{twice_most, kept_most}
 use Rattle.point_arrays.specs.PointArrays.{held, points_in, locations_in}
 use Rattle.point_arrays.proofs.ReadLaws.{length_points, points_more, points_below, locations_read}
-use Rattle.metric.specs.declared.Metric.{Metric}
-use Rattle.metric.specs.Read.{metric_read}
-use Rattle.metric.proofs.FromLaws.{read_scaled}
 use Rattle.extent.specs.declared.Extent.{Extent}
-use Rattle.extent.specs.Kept.{with_radius, as_extent, EndsOf, contents_read}
+use Rattle.extent.specs.Kept.{with_radius, as_extent, EndsOf}
 
 -- a number of one point more
 last_of : (op : ℕ → ℕ → ℕ) (f : Point → ℕ) (l : List Point) (a : Point) (m r : ℕ) → 0 < length l → m ≡ through 0 op (map f l) → r ≡ op m (f a)
@@ -57,16 +54,13 @@ module _ (xs ys : List ℕ) (zs : List ℤ) where
       (more (points_in xs ys zs i) (omega (arith, length_points xs ys zs i)) was)
 
 -- the extent of the points that arrays hold, from their ends
-module _ (xs ys : List ℕ) (zs : List ℤ) (n m : ℕ) (metric : Metric) (em : m ≡ min n 256) where
+module _ (xs ys : List ℕ) (zs : List ℤ) (n m : ℕ) (em : m ≡ min n 256) where
   abbrev points : List Point
   points = points_in xs ys zs n
 
-  abbrev contents : Contents
-  contents = contents_read xs ys zs n metric
-
-  pub extent_none : (e : Extent) → m ≡ 0 → as_extent e ≡ zeros → as_extent e ≡ extent_of contents
-  unfolding contents_read points_in held tabulate
-  extent_none e none h = let k : min n 256 ≡ 0 = omega arith in h ∙ sym (ends_none contents (rw k))
+  pub extent_none : (e : Extent) → m ≡ 0 → as_extent e ≡ extent_of (contents_of []) → as_extent e ≡ extent_of (contents_of points)
+  unfolding points_in held tabulate
+  extent_none e none h = let k : min n 256 ≡ 0 = omega arith in rw k h
 
   module _ (some : 0 < m) (e : Extent) (h : EndsOf (points_in xs ys zs m) e) where
     ends : EndsOf points e
@@ -77,26 +71,17 @@ module _ (xs ys : List ℕ) (zs : List ℤ) (n m : ℕ) (metric : Metric) (em : 
     counted = length_points xs ys zs n ∙ sym em
 
     -- twice the area, from where the first m points are
-    enclosed_read : enclosed (locations_in xs ys m) ≡ enclosed (locations points)
-    unfolding locations_in
-    enclosed_read = let k : min m 256 ≡ min n 256 = omega arith in rw (locations_read xs ys zs n, k)
+    area : (a : ℕ) → a ≡ enclosed (locations_in xs ys m) → a ≡ twice_area (contents_of points)
+    unfolding twice_area locations_in
+    area a h = let k : min m 256 ≡ min n 256 = omega arith in rw (locations_read xs ys zs n) (rw k at h)
 
-    pub enclosed_small : (a : ℕ) → a ≡ enclosed (locations_in xs ys m) → a < 2 ^ 40
-    enclosed_small a h = omega (arith, enclosed_read, enclosed_points points (points_below xs ys zs n), counted)
+    pub small : (a : ℕ) → a ≡ enclosed (locations_in xs ys m) → a < 2 ^ 33
+    small a h = omega (arith, area a h, twice_most (contents_of points) (points_below xs ys zs n), counted)
 
-    module _ (a b : ℕ) (g : a ≡ enclosed (locations_in xs ys m)) (l : b ≡ (metric_read metric).scale_x * (metric_read metric).scale_y * a) where
-      area : b ≡ twice_area contents
-      unfolding contents_read twice_area
-      area = rw (l, g, enclosed_read)
-
-      pub small : b < m * 2 ^ 31
-      unfolding contents_read
-      small = omega (arith, area, twice_most contents (read_scaled metric) (points_below xs ys zs n), counted)
-
-      pub extent_some : (r : ℕ) → r ≡ radius_of b m → (with_radius e r ≡ extent_of contents) × (r ≤ 2 ^ 24)
-      unfolding contents_read extent_of initial_radius
-      extent_some r h =
-          let same : with_radius e r ≡ extent_of contents =
-          rw (h, area, ends.least_x, ends.greatest_x, ends.least_y, ends.greatest_y, ends.least_z, ends.greatest_z, ← counted) in
-          let k = ap (λ (t : Kept). t.radius) same in
-          (same, omega (arith, kept_most contents (read_scaled metric) (points_below xs ys zs n)))
+    pub extent_some : (a r : ℕ) → a ≡ enclosed (locations_in xs ys m) → r ≡ radius_of a m → (with_radius e r ≡ extent_of (contents_of points)) × (r ≤ 2 ^ 24)
+    unfolding extent_of initial_radius
+    extent_some a r g h =
+        let same : with_radius e r ≡ extent_of (contents_of points) =
+        rw (h, area a g, ends.least_x, ends.greatest_x, ends.least_y, ends.greatest_y, ends.least_z, ends.greatest_z, ← counted) in
+        let k = ap (λ (t : Kept). t.radius) same in
+        (same, omega (arith, kept_most (contents_of points) (points_below xs ys zs n)))

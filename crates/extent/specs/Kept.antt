@@ -1,11 +1,8 @@
--- What the struct of an extent holds: the model's numbers, and the ends of a list of points; and the contents that it is worked out from.
-use Rattle.std.specs.Prelude.{◌≡◌, ℕ, ◌^◌, min, max, List, map, ℤ}
+-- What the struct of an extent holds: the model's numbers, and the ends of a list of points.
+use Rattle.std.specs.Prelude.{◌≡◌, ℕ, ◌^◌, min, max, List, map}
 use Rattle.model.specs.Lists.{through}
-use Rattle.model.specs.Point.{Point, Contents, Extent as Kept}
+use Rattle.model.specs.Point.{Point, Extent as Kept}
 use Rattle.model.specs.Extent.{lesser, greater, values_by}
-use Rattle.point_arrays.specs.PointArrays.{points_in}
-use Rattle.metric.specs.declared.Metric.{Metric}
-use Rattle.metric.specs.Read.{metric_read}
 use Rattle.extent.specs.declared.Extent.{Extent}
 
 -- the model's numbers: the ends as they stand, and r as R0
@@ -36,8 +33,3 @@ pub record EndsOf (l : List Point) (e : Extent) : Type 0 where
   pub greatest_y : e.greatest_y ≡ through 0 max (map (λ (a : Point). a.y) l)
   pub least_z : e.least_z ≡ values_by lesser l
   pub greatest_z : e.greatest_z ≡ values_by greater l
-
--- what arrays, a count and a metric hold, as they are read
-unfoldable pub contents_read : List ℕ → List ℕ → List ℤ → ℕ → Metric → Contents
-unfolding points_in
-contents_read xs ys zs n m = record { points = points_in xs ys zs n; metric = metric_read m }

@@ -1,12 +1,9 @@
-// What is kept of the points: the ends of their coordinates and of their values, and the initial radius R0, over lent arrays, a count and scales: document 02, §1.
-ghost use Rattle.std.specs.Prelude.{◌≡◌, List, [], ◌∷◌, ◌++◌, ◌*◌, ◌^◌, ◌<◌, ◌≤◌, min, max, length};
-ghost use Rattle.model.specs.Point.{Point, point};
-ghost use Rattle.model.specs.Extent.{zeros as zeros_of, extent_of};
+// What is kept of the points: the ends of their coordinates and of their values, and the initial radius R0, over lent arrays and a count: document 02, §1.
+ghost use Rattle.std.specs.Prelude.{◌≡◌, List, [], ◌∷◌, ◌++◌, ◌^◌, ◌<◌, ◌≤◌, min, max, length};
+ghost use Rattle.model.specs.Point.{Point, point, contents_of};
+ghost use Rattle.model.specs.Extent.{extent_of};
 ghost use Rattle.point_arrays.specs.PointArrays.{points_in};
-ghost use Rattle.metric.specs.Read.{metric_read};
-ghost use Rattle.extent.specs.Kept.{as_extent, EndsOf, contents_read};
-
-use metric::Metric;
+ghost use Rattle.extent.specs.Kept.{as_extent, EndsOf};
 
 // The least and the greatest x, y and value, and R0 in 256ths of a step.
 #[derive(Drop)]
@@ -41,7 +38,7 @@ fn greatest(a: u16, b: u16) -> u16
 
 // The extent of no point.
 pub fn zeros() -> Extent
-    ensures { (as_extent result ≡ zeros_of) × (result.radius ≤ 2 ^ 24) }
+    ensures { (as_extent result ≡ extent_of (contents_of [])) × (result.radius ≤ 2 ^ 24) }
 {
     Extent {
         least_x: 0,
@@ -107,24 +104,9 @@ fn ends_of<'a>(xs: &'a [u16; 256], ys: &'a [u16; 256], zs: &'a [i8; 256], m: usi
     e
 }
 
-// An area as often as both scales say.
-fn scaled(area: u64, metric: Metric) -> u64
-    requires { area < 2 ^ 40 }
-    ensures { result ≡ (metric_read metric).scale_x * (metric_read metric).scale_y * area }
-{
-    let m = metric::read(metric);
-    (m.scale_x as u64) * (m.scale_y as u64) * area
-}
-
-// The extent of the points, R0 by how distances are taken.
-pub fn extent_of<'a>(
-    xs: &'a [u16; 256],
-    ys: &'a [u16; 256],
-    zs: &'a [i8; 256],
-    n: usize,
-    metric: Metric,
-) -> Extent
-    ensures result_value { as_extent result ≡ extent_of (contents_read xs.now ys.now zs.now n metric) }
+// The extent of the points.
+pub fn extent_of<'a>(xs: &'a [u16; 256], ys: &'a [u16; 256], zs: &'a [i8; 256], n: usize) -> Extent
+    ensures result_value { as_extent result ≡ extent_of (contents_of (points_in xs.now ys.now zs.now n)) }
     ensures radius_bound { result.radius ≤ 2 ^ 24 }
 {
     let m = point_arrays::clamped(n);
@@ -132,7 +114,7 @@ pub fn extent_of<'a>(
         return zeros();
     }
     let mut e = ends_of(xs, ys, zs, m);
-    let twice = scaled(polygon::enclosed(xs, ys, m), metric);
+    let twice = polygon::enclosed(xs, ys, m);
     e.radius = root::radius_of(twice, m as u64);
     e
 }

@@ -1,4 +1,4 @@
--- §5 of the grids of every two programs: whatever the calls of each, where their surveys stand at the same locations, with the same scales, a cell is the same number wherever the values differ
+-- §5 of the grids of every two programs: whatever the calls of each, where their surveys stand at the same locations, a cell is the same number wherever the values differ
 -- only at points not chosen at its location.
 use mathlib.Core.Path.{◌≡◌, refl, sym, ap, ◌∙◌}
 use Prim.Native.Nat.{ℕ, ◌+◌, ◌-◌, ◌*◌, ◌<◌}
@@ -39,7 +39,7 @@ use Rattle.esri.proofs.write.Reads as text_of
 use Rattle.grid_history.proofs.Files.{file_claimed}
 use Rattle.grid_history.proofs.Texts.{text_claimed}
 
--- a cell of two grids over contents at the same locations, with the same scales, where it stands among all
+-- a cell of two grids over contents at the same locations, where it stands among all
 module _ (q r : Contents) (alike : Alike q r) (g : Model-as-Grid) (c k : ℕ) (column : c < g.columns) (row : k < g.rows) (spared : Spared (settled q) (cell_location g c k) r) where
   cell_same : (d : ℤ) → get_or (cells (settled q) g) (g.columns * k + c) d ≡ get_or (cells (settled r) g) (g.columns * k + c) d
   cell_same d =

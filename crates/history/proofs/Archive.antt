@@ -1,4 +1,4 @@
--- Of a survey that calls left, written and loaded again, the points are the same, and both scales are 1; and a file that was loaded ends in the bytes that writing then gives.
+-- A survey that calls left, written and loaded again, is the same survey; and a file that was loaded ends in the bytes that writing then gives.
 use mathlib.Core.Path.{◌≡◌, sym, ap, ◌∙◌}
 use Prim.Native.Nat.{ℕ}
 use native.Mathlib.Omega.{arith}
@@ -7,7 +7,7 @@ use lib.ListN.{take, drop}
 use contract.Lifetimes.{Lfts}
 use denote.Ref.{Bor}
 use Rattle.model.specs.Lists.{Bytes}
-use Rattle.model.specs.Point.{State, contents_of}
+use Rattle.model.specs.Point.{State}
 use Rattle.model.specs.Calls.{Call, Load, refusal, accepted}
 use Rattle.model.specs.SurveyFile.{file_of, file_points, file_refusal, record_start}
 use Rattle.laws.proofs.RoundTrip.{file_length, written_read, written_accepted, accepted_ends}
@@ -25,19 +25,19 @@ use Rattle.history.proofs.Runs.{survey_invariant}
 points_of : {s t : State} → s ≡ t → s.contents.points ≡ t.contents.points
 points_of e = ap (λ (u : State). u.contents.points) e
 
--- what `write` gave of such a survey, `load` accepts, and it leaves the same points and nothing else set
+-- what `write` gave of such a survey, `load` accepts, and it leaves the same points
 pub written_loads : {cs : List Call} {s : Survey} → Runs cs s → (κs κs' : Lfts 1) (out out' : Bor (List ℕ)) (n : ℕ)
     → write-of.Post κs (s, (out, tt)) (Length n) (s, (out', tt))
     → (t : Survey) (file : Bor (List ℕ)) (r : Reply) → file.now ≡ take n out'.now
     → load_of.Post κs' (t, (file, tt)) r (t, (file, tt))
-    → (r.refusal ≡ 0) × (contents_in r.survey ≡ contents_of (contents_in s).points)
+    → (r.refusal ≡ 0) × ((contents_in r.survey).points ≡ (contents_in s).points)
 unfolding refusal accepted
 written_loads {cs} {s} h κs κs' out out' n w t file r e l =
     let i = survey_invariant h in
     let p = (contents_in s).points in
     let f : file.now ≡ file_of p = e ∙ ap (take n) w.1 ∙ written_file p out.now n (sym w.0) in
     let none : file_refusal file.now ≡ 0 = rw f (written_accepted [] p i (omega (arith, file_length p, i.count))) in
-    (l.number ∙ none, ap (λ (u : State). u.contents) (l.state ∙ edited_accepted (Load file.now) (state_of t) none) ∙ ap contents_of (ap file_points f ∙ written_read [] p i))
+    (l.number ∙ none, points_of (l.state ∙ edited_accepted (Load file.now) (state_of t) none) ∙ ap file_points f ∙ written_read [] p i)
 
 -- a file that `load` accepted ends in the bytes that `write` then gives
 pub loaded_ends : (κs κs' : Lfts 1) (t : Survey) (file : Bor (List ℕ)) (r : Reply) → Bytes file.now

@@ -9,7 +9,7 @@ use lib.ListN.{length, take, drop, take-append-drop}
 use Rattle.model.specs.Point.{Point, Contents, Extent, State, location, in_domain}
 use Rattle.model.specs.Radius.{locations, twice_area}
 use Rattle.model.specs.Extent.{extent_of, settled}
-use Rattle.model.specs.Invariant.{Invariant, ScalesInRange}
+use Rattle.model.specs.Invariant.{Invariant}
 use Rattle.model.specs.Answer.{answer, chosen_count}
 use Rattle.model.specs.Refusals.{neighbours_refusal}
 use Rattle.model.specs.Lent.{neighbours_into}
@@ -96,9 +96,9 @@ module _ (x y : ℕ) (q : Contents) where
       ∙ ap (λ (t : List Record). t ++ drop n l) (neighbours_unaltered record_of x y (settled q) (take n l) (lent_refused x y (length (take n l)) q h))
       ∙ take-append-drop n l)
 
-pub claim_kept : (q : Contents) (e : Extent) → Invariant q.points → ScalesInRange q.metric → e ≡ extent_of q → ClaimKept q e
+pub claim_kept : (q : Contents) (e : Extent) → Invariant q.points → e ≡ extent_of q → ClaimKept q e
 unfolding twice_area
-claim_kept q e sound scales h =
+claim_kept q e sound h =
     let up = locations_ascend q.points sound.ascending in
     record {
       same = h;
@@ -106,6 +106,4 @@ claim_kept q e sound scales h =
       ends = λ k. rw h (ends_are q k);
       around = polygon_is (locations q.points) up;
       area = area_is (locations q.points) up;
-      scales = scales;
-      scaled = refl;
     }

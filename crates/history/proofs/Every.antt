@@ -11,7 +11,7 @@ use Rattle.model.specs.Lists.{All, Bytes}
 use Rattle.model.specs.Bytes.{bytes4, complement, signed}
 use contract.Lifetimes.{Lfts}
 use denote.Ref.{Bor}
-use Rattle.model.specs.Calls.{Call, Add, Change, Drop, Clear, Load, Scale, Ask, present}
+use Rattle.model.specs.Calls.{Call, Add, Change, Drop, Clear, Load, Ask, present}
 use Rattle.laws.proofs.ListLaws.{all_append}
 use Rattle.laws.proofs.ValueLaws.{mag_below}
 use Rattle.laws.proofs.Numbers.{long_back, bytes4_bytes, signed_back, complement_below}
@@ -54,7 +54,6 @@ call_back Clear n j fs h = record_back 3 0 0 0 0 0 0 n j fs
 call_back (Load f) n j fs h =
     let e : 4294967296 * low (length f / 4294967296) + low (length f) ≡ length f = omega arith in
     record_back 4 (length f / 4294967296) (length f) 0 0 0 0 n j (f ++ fs) ∙ rw (e, take-append_seam, drop-append_seam)
-call_back (Scale a b) n j fs h = record_back 5 a b 0 0 0 0 n j fs ∙ rw (mod-eq_of_lt h.0, mod-eq_of_lt h.1)
 call_back Ask n j fs h = record_back 255 0 0 0 0 0 0 n j fs
 
 each_back : (cs : List Call) → All Callable cs → first_calls (length cs) (encoded cs) (files cs) ≡ cs
@@ -90,7 +89,6 @@ written (Change x y z) h = written_of 1 x y (complement 2147483648 z) 0 0 0 [] (
 written (Drop x y) h = written_of 2 x y 0 0 0 0 [] (omega arith) tt
 written Clear h = written_of 3 0 0 0 0 0 0 [] (omega arith) tt
 written (Load f) h = written_of 4 (length f / 4294967296) (length f) 0 0 0 0 f (omega arith) h.0
-written (Scale a b) h = written_of 5 a b 0 0 0 0 [] (omega arith) tt
 written Ask h = written_of 255 0 0 0 0 0 0 [] (omega arith) tt
 
 encoded_length : (cs : List Call) → All Callable cs → length (encoded cs) ≡ 25 * length cs

@@ -1,4 +1,4 @@
--- §5 of every two programs: whatever the calls of each, where their surveys stand at the same locations, with the same scales, and the values differ only at points not chosen at a location,
+-- §5 of every two programs: whatever the calls of each, where their surveys stand at the same locations and the values differ only at points not chosen at a location,
 -- lookups there give the same.
 use mathlib.Core.Path.{◌≡◌, sym, ap, ◌∙◌}
 use Prim.Native.Nat.{ℕ}

@@ -5,4 +5,3 @@ pub mod Every
 pub mod Runs
 pub mod Archive
 pub mod FarOff
-pub mod Scales

@@ -9,7 +9,6 @@ use Rattle.model.specs.Calls.{Call, Drop, refusal, after, after_all, present, ed
 use Rattle.model.specs.Invariant.{Invariant}
 use Rattle.laws.proofs.CallLaws.{after_ask, edited_settled, present_more}
 use Rattle.laws.proofs.HistoryInvariant.{history_invariant}
-use Rattle.laws.proofs.ScaleLaws.{history_scaled}
 use Rattle.laws.proofs.ExtentLaws.{drop_shrinks}
 use Rattle.extent.specs.declared.Extent.{Extent}
 use Rattle.extent.specs.Kept.{as_extent}
@@ -25,7 +24,7 @@ use Rattle.lending.specs.declared.AnswerWithRecords.{AnswerWithRecords}
 use Rattle.lending.specs.LentAs.{LentAs}
 use Rattle.lending.proofs.lookup_lending.Reads as lookup-lending-of
 use Rattle.history.specs.Claim.{Claim, ClaimLent, ClaimKept}
-use Rattle.history.specs.Runs.{Makes, add, change, drop, clear, load, scale, asks, Runs, fresh, more}
+use Rattle.history.specs.Runs.{Makes, add, change, drop, clear, load, asks, Runs, fresh, more}
 use Rattle.history.proofs.ClaimLaws.{claim_of, claim_lent_of, claim_lending_of, claim_kept}
 
 -- an edit of a survey whose state is settled
@@ -39,7 +38,6 @@ made (change s x y z r p) = replied _ s r p
 made (drop s x y r p) = replied _ s r p
 made (clear s r p) = replied _ s r p
 made (load s κs file r p) = replied _ s r p
-made (scale s m n r p) = replied _ s r p
 made (asks s) = λ q e. e ∙ ap settled (sym (after_ask q))
 
 made_plain : {c : Call} {s t : Survey} → Makes c s t → Plain s → Plain t
@@ -48,7 +46,6 @@ made_plain (change s x y z r p) = p.plain
 made_plain (drop s x y r p) = p.plain
 made_plain (clear s r p) = p.plain
 made_plain (load s κs file r p) = p.plain
-made_plain (scale s m n r p) = p.plain
 made_plain (asks s) = λ p. p
 
 -- a list of calls leaves in the survey what the model says is present
@@ -78,13 +75,13 @@ module _ {cs : List Call} {s : Survey} (h : Runs cs s) (x y : ℕ) where
       → ClaimLent x y (length (take n l)) (present cs) r.answer l r.records
   demand_3_lending l n r p = let f = rw (leaves h) at p in claim_lending_of x y (present cs) r.answer l r.records n f.0 f.1 f.2
 
--- §1, §4 and §7 of every program: whatever the calls, the refused ones among them, `extent` gives what is kept of the points that are present, R0 by the polygon around them
+-- §1 and §4 of every program: whatever the calls, the refused ones among them, `extent` gives what is kept of the points that are present, R0 by the polygon around them
 module _ {cs : List Call} {s : Survey} (h : Runs cs s) where
   kept_is : (e : Extent) → extent-of.Post tt (s, tt) e (s, tt) → as_extent e ≡ extent_of (present cs)
   kept_is e p = p ∙ ap (λ (t : State). t.extent) (leaves h)
 
   pub ends_kept : (e : Extent) → extent-of.Post tt (s, tt) e (s, tt) → ClaimKept (present cs) (as_extent e)
-  ends_kept e p = claim_kept (present cs) (as_extent e) (history_invariant cs) (history_scaled cs) (kept_is e p)
+  ends_kept e p = claim_kept (present cs) (as_extent e) (history_invariant cs) (kept_is e p)
 
 -- a corner that is dropped, where another point is left, shrinks the rectangle again
 pub corner_dropped : {cs : List Call} {s t : Survey} (x y : ℕ) → Runs cs s → Makes (Drop x y) s t → refusal (Drop x y) (present cs) ≡ 0 → 1 < length (present cs).points

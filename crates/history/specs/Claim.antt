@@ -1,10 +1,9 @@
--- Demand 3, of one lookup in what is present, and of one that is lent neighbour records; and document 02's §1, §4 and §7, of what is kept.
-use Rattle.std.specs.Prelude.{ℕ, ◌*◌, ◌<◌, ◌≤◌, ◌≡◌, ◌↔◌, true, List, [], ℤ, length}
+-- Demand 3, of one lookup in what is present, and of one that is lent neighbour records; and document 02's §1 and §4, of what is kept.
+use Rattle.std.specs.Prelude.{ℕ, ◌<◌, ◌≤◌, ◌≡◌, ◌↔◌, true, List, [], ℤ, length}
 use Rattle.model.specs.Point.{Contents, Extent, location, in_domain}
-use Rattle.model.specs.Polygon.{polygon, enclosed, IsPolygon, IsArea}
+use Rattle.model.specs.Polygon.{polygon, IsPolygon, IsArea}
 use Rattle.model.specs.Radius.{locations, twice_area}
 use Rattle.model.specs.Extent.{zeros, extent_of, settled, IsExtent}
-use Rattle.model.specs.Invariant.{ScalesInRange}
 use Rattle.model.specs.Mean.{Right}
 use Rattle.neighbour_records.specs.declared.Record.{Record}
 use Rattle.survey.specs.declared.Answer.{Answer}
@@ -24,12 +23,10 @@ pub record ClaimLent (x y n : ℕ) (q : Contents) (a : Answer) (l k : List Recor
   pub enough : 10 ≤ n → Claim x y q a
 
 -- §1, of what is kept where q is present: it follows from q; so it is zeros of no point, and of one or more what §1 says.
--- §4 and §7: R0 goes by twice the area of the convex polygon around the points, as often as both scales say, which are from 1 to 8
+-- §4: R0 goes by twice the area of the convex polygon around the points
 pub record ClaimKept (q : Contents) (e : Extent) : Type 0 where
   pub same : e ≡ extent_of q
   pub none : q.points ≡ [] → e ≡ zeros
   pub ends : 0 < length q.points → IsExtent q e
   pub around : IsPolygon (locations q.points) (polygon (locations q.points))
-  pub area : IsArea (locations q.points) (enclosed (locations q.points))
-  pub scales : ScalesInRange q.metric
-  pub scaled : twice_area q ≡ q.metric.scale_x * q.metric.scale_y * enclosed (locations q.points)
+  pub area : IsArea (locations q.points) (twice_area q)

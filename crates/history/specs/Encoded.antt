@@ -3,7 +3,7 @@ use Rattle.std.specs.Prelude.{ℕ, ◌-◌, ◌/◌, ◌^◌, ◌<◌, ℤ, pos,
 use mathlib.Core.List.{List, [], ◌∷◌, ◌++◌, flat_map}
 use Rattle.model.specs.Lists.{Bytes}
 use Rattle.model.specs.Bytes.{bytes4, complement}
-use Rattle.model.specs.Calls.{Call, Add, Change, Drop, Clear, Load, Scale, Ask}
+use Rattle.model.specs.Calls.{Call, Add, Change, Drop, Clear, Load, Ask}
 
 -- the record of an operation and six numbers
 abbrev pub call_record : ℕ → ℕ → ℕ → ℕ → ℕ → ℕ → ℕ → List ℕ
@@ -16,7 +16,6 @@ call_bytes (Change x y z) = call_record 1 x y (complement (2 ^ 31) z) 0 0 0
 call_bytes (Drop x y) = call_record 2 x y 0 0 0 0
 call_bytes Clear = call_record 3 0 0 0 0 0 0
 call_bytes (Load f) = call_record 4 (length f / 2 ^ 32) (length f) 0 0 0 0
-call_bytes (Scale m n) = call_record 5 m n 0 0 0 0
 call_bytes Ask = call_record 255 0 0 0 0 0 0
 
 -- its file
@@ -26,7 +25,6 @@ call_file (Change x y z) = []
 call_file (Drop x y) = []
 call_file Clear = []
 call_file (Load f) = f
-call_file (Scale m n) = []
 call_file Ask = []
 
 unfoldable pub encoded : List Call → List ℕ
@@ -51,5 +49,4 @@ Callable (Change x y z) = Words x y × SignedWord z
 Callable (Drop x y) = Words x y
 Callable Clear = Unit {0}
 Callable (Load f) = Bytes f × (length f < 2 ^ 64)
-Callable (Scale m n) = Words m n
 Callable Ask = Unit {0}

@@ -2,17 +2,16 @@
 -- The files of the loads stand one after the other in a second list of bytes.
 use Rattle.std.specs.Prelude.{ℕ, zero, suc, ◌+◌, ◌*◌, ◌/◌, ◌^◌, cond, List, [], ◌∷◌, eqb, length, take, drop, get_or}
 use Rattle.model.specs.Bytes.{long_at, signed}
-use Rattle.model.specs.Calls.{Call, Add, Change, Drop, Clear, Load, Scale, Ask}
+use Rattle.model.specs.Calls.{Call, Add, Change, Drop, Clear, Load, Ask}
 
--- the call of an operation, its numbers w and its file: 0 add, 1 change, 2 drop, 3 clear, 4 load, 5 scales; any other only asks, as a plain lookup does
+-- the call of an operation, its numbers w and its file: 0 add, 1 change, 2 drop, 3 clear, 4 load; any other only asks, as a plain lookup does
 unfoldable pub call_of : ℕ → List ℕ → List ℕ → Call
 call_of op w file =
     cond (eqb op 0) (Add (get_or w 0 0) (get_or w 1 0) (signed (2 ^ 31) (get_or w 2 0)))
     (cond (eqb op 1) (Change (get_or w 0 0) (get_or w 1 0) (signed (2 ^ 31) (get_or w 2 0)))
     (cond (eqb op 2) (Drop (get_or w 0 0) (get_or w 1 0))
     (cond (eqb op 3) Clear
-    (cond (eqb op 4) (Load file)
-    (cond (eqb op 5) (Scale (get_or w 0 0) (get_or w 1 0)) Ask)))))
+    (cond (eqb op 4) (Load file) Ask))))
 
 -- the length of a load's file, high 32 bits first
 unfoldable pub file_length : ℕ → List ℕ → ℕ

@@ -3,7 +3,7 @@
 use Rattle.std.specs.Prelude.{ℕ, List, [], ◌∷◌, ◌++◌, ℤ}
 use contract.Lifetimes.{Lfts}
 use Rattle.std.specs.Borrow.{Bor}
-use Rattle.model.specs.Calls.{Call, Add, Change, Drop, Clear, Load, Scale, Ask}
+use Rattle.model.specs.Calls.{Call, Add, Change, Drop, Clear, Load, Ask}
 use Rattle.survey.specs.declared.Survey.{Survey}
 use Rattle.survey.specs.declared.Reply.{Reply}
 use Rattle.survey.proofs.fresh.Reads as fresh-of
@@ -12,7 +12,6 @@ use Rattle.survey.proofs.change.Reads as change-of
 use Rattle.survey.proofs.drop.Reads as drop_of
 use Rattle.survey.proofs.clear.Reads as Clear-of
 use Rattle.survey.proofs.load.Reads as load_of
-use Rattle.survey.proofs.set_scales.Reads as set-scales-of
 
 -- the call, made on the survey in front of it, left the one behind it
 pub data Makes : Call → Survey → Survey → Type 0 where
@@ -21,7 +20,6 @@ pub data Makes : Call → Survey → Survey → Type 0 where
   drop : (s : Survey) (x y : ℕ) (r : Reply) → drop_of.Post tt (s, (x, (y, tt))) r (s, (x, (y, tt))) → Makes (Drop x y) s r.survey
   clear : (s : Survey) (r : Reply) → Clear-of.Post tt (s, tt) r (s, tt) → Makes Clear s r.survey
   load : (s : Survey) (κs : Lfts 1) (file : Bor (List ℕ)) (r : Reply) → load_of.Post κs (s, (file, tt)) r (s, (file, tt)) → Makes (Load file.now) s r.survey
-  scale : (s : Survey) (m n : ℕ) (r : Reply) → set-scales-of.Post tt (s, (m, (n, tt))) r (s, (m, (n, tt))) → Makes (Scale m n) s r.survey
   -- a lookup, a grid, a begin, a row, a file written: it gets the survey by value, and its caller's stays, whatever it is handed and gives
   asks : (s : Survey) → Makes Ask s s
 

@@ -89,10 +89,6 @@ fn run_call(s: Survey, op: u8, w: [u32; 6], file: &[u8]) -> Survey
         let r = survey::load(s, file);
         return r.survey;
     }
-    if op == 5 {
-        let r = survey::set_scales(s, w[0], w[1]);
-        return r.survey;
-    }
     s
 }
 

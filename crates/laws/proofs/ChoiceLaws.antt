@@ -2,8 +2,7 @@
 -- Rule 2: the order is of all points, by d², then x, then y.
 use mathlib.Core.Path.{◌≡◌, refl, sym, ◌∙◌}
 use mathlib.Core.Logic.{◌⊎◌, inl, inr, ◌↔◌}
-use Prim.Native.Nat.{ℕ, zero, suc, ◌+◌, ◌*◌, ◌≤◌, ◌<◌}
-use native.Mathlib.Nat.{mul-zero, mul-pos}
+use Prim.Native.Nat.{ℕ, zero, suc, ◌+◌, ◌*◌, ◌<◌}
 use native.Mathlib.Omega.{arith}
 use mathlib.Core.Bool.{Bool, true, false, cond, ◌||◌, or_assoc, or_comm, false≢true}
 use mathlib.Core.List.{List, [], ◌∷◌}
@@ -11,11 +10,10 @@ use lib.ListN.{length, take}
 use borrow.Author.Tests.{eq-eqb}
 use Rattle.model.specs.Lists.{count, Pairs}
 use Rattle.model.specs.Point.{Location, Point, State, at, precedes}
-use Rattle.model.specs.Distance.{gap, across, up, squared}
+use Rattle.model.specs.Distance.{gap, squared}
 use Rattle.model.specs.Order.{insert, sort_onto, sort}
 use Rattle.model.specs.Choice.{Choice, nearer, ordered, choice_apart, starts_at, coincident, choice}
 use Rattle.model.specs.Calls.{taken}
-use Rattle.model.specs.Invariant.{ScalesInRange}
 use Rattle.laws.proofs.PrecedesLaws.{lexical_true, less_lexical, lexical_trans, lexical_self, precedes_trans, precedes_self, at_same}
 use Rattle.laws.proofs.OrderLaws.{sort_settled, sort_count}
 
@@ -23,13 +21,6 @@ squares_zero : (m n : ℕ) → m * m + n * n ≡ 0 → (m ≡ 0) × (n ≡ 0)
 squares_zero zero zero h = (refl, refl)
 squares_zero zero (suc n) h = absurd (omega arith)
 squares_zero (suc m) n h = absurd (omega arith)
-
--- k times n, for k of at least 1, is 0 only where n is
-times_zero : (k n : ℕ) → 1 ≤ k → k * n ≡ 0 → n ≡ 0
-times_zero k zero h e = refl
-times_zero k (suc n) h e =
-    let g : 0 < k * suc n = mul-pos h (omega arith) in
-    absurd (omega arith)
 
 -- rule 1 of a choice: one point, at p, and the radius 0
 pub record Alone (p : Location) (c : Choice) : Type 0 where
@@ -46,19 +37,17 @@ starts_cond : (p : Location) (t : Bool) (l m : List Point) → starts_at p (cond
 starts_cond p true l m = refl
 starts_cond p false l m = refl
 
-module _ (s : State) (scaled : ScalesInRange s.contents.metric) (p : Location) where
+module _ (s : State) (p : Location) where
   -- d² is 0 of a point at p alone
   pub squared_zero : (a : Point) → (squared s p a ≡ 0) ↔ (at p.x p.y a ≡ true)
   unfolding squared
   squared_zero a = (
-    (λ h. let g = squares_zero (across s p a) (up s p a) h in
-        let ex : gap p.x a.x ≡ 0 = times_zero s.contents.metric.scale_x _ scaled.x.0 g.0 in
-        let ey : gap p.y a.y ≡ 0 = times_zero s.contents.metric.scale_y _ scaled.y.0 g.1 in
+    (λ h. let g = squares_zero (gap p.x a.x) (gap p.y a.y) h in
         rw (eq-eqb a.x p.x (omega arith), eq-eqb a.y p.y (omega arith))),
     λ h. let g = at_same p.x p.y a h in
         let ex : gap p.x a.x ≡ 0 = omega arith in
         let ey : gap p.y a.y ≡ 0 = omega arith in
-        rw (ex, ey, mul-zero s.contents.metric.scale_x, mul-zero s.contents.metric.scale_y),
+        rw (ex, ey),
   )
 
   pub squared_apart : (a : Point) → at p.x p.y a ≡ false → 0 < squared s p a
@@ -113,7 +102,6 @@ module _ (s : State) (scaled : ScalesInRange s.contents.metric) (p : Location) w
   unfolding choice
   rule_one h = first_alone p (ordered s p) (choice_apart s p) (coincident_is ∙ h)
 
-module _ (s : State) (p : Location) where
   nearer_self : (a : Point) → nearer s p a a ≡ false
   unfolding nearer
   nearer_self a = lexical_self (squared s p a) (precedes a a) (precedes_self a)

@@ -1,6 +1,6 @@
--- What holds of the chosen points and of R: they are some of the points, one to ten. For points in the domain and scales from 1 to 8 no distance is beyond 11,860,386, and R not beyond 2²⁴.
+-- What holds of the chosen points and of R: they are some of the points, one to ten, and neither distances nor R are beyond 2²⁴ for points in the domain.
 use mathlib.Core.Path.{◌≡◌, refl, sym, ap, ◌∙◌}
-use Prim.Native.Nat.{ℕ, ◌+◌, ◌*◌, ◌^◌, ◌≤◌, ◌<◌}
+use Prim.Native.Nat.{ℕ, ◌^◌, ◌≤◌, ◌<◌}
 use native.Mathlib.Nat.{mul-le-mul}
 use native.Mathlib.Omega.{arith}
 use mathlib.Core.Bool.{Bool, true, false, cond, false≢true}
@@ -10,11 +10,10 @@ use lib.ListN.{length, take, get_or, length-take}
 use borrow.Author.Tests.{leb-true, leb-false}
 use Rattle.model.specs.Lists.{All}
 use Rattle.model.specs.Point.{Location, Point, State, at, no_point}
-use Rattle.model.specs.Distance.{gap, across, up, squared, distance_of, distance}
+use Rattle.model.specs.Distance.{gap, squared, distance_of, distance}
 use Rattle.model.specs.Choice.{Choice, nearer, ordered, within, few, distance_at, by_count, choice_apart, starts_at, coincident, choice}
 use Rattle.model.specs.Mean.{first_chosen}
 use Rattle.model.specs.Calls.{taken}
-use Rattle.model.specs.Invariant.{ScalesInRange}
 use Rattle.laws.proofs.Tests.{or_false}
 use Rattle.laws.proofs.ListLaws.{all_imp, all_take, all_at, all_below}
 use Rattle.laws.proofs.RootLaws.{distance_le_iff, distance_pos}
@@ -26,15 +25,12 @@ use Rattle.laws.proofs.ChoiceLaws.{squared_zero, squared_apart, coincident_is}
 abbrev pub Inside : Point → Type 0
 Inside a = (a.x < 4096) × (a.y < 4096)
 
--- document 02's greatest distance, corner to corner with both scales 8
-abbrev pub farthest : ℕ
-farthest = 11860386
+-- D of a squared distance that fits 32 bits
+distance_most : (n : ℕ) → n < 4294967296 → distance_of n ≤ 2 ^ 24
+distance_most n h = (distance_le_iff n (2 ^ 24)).1 (omega arith)
 
-distance_most : (n : ℕ) → n ≤ 32760 * 32760 + 32760 * 32760 → distance_of n ≤ farthest
-distance_most n h = (distance_le_iff n farthest).1 (omega arith)
-
-pub gap_most : (k m n : ℕ) → k ≤ 8 → m < 4096 → n < 4096 → k * gap m n ≤ 32760
-gap_most k m n h f g = let e : gap m n ≤ 4095 = omega arith in omega (arith, mul-le-mul h e)
+gap_most : (m n : ℕ) → m < 4096 → n < 4096 → gap m n ≤ 4095
+gap_most m n h k = omega arith
 
 pub apart_points : (x y : ℕ) (l : List Point) → taken x y l ≡ false → All (λ a. at x y a ≡ false) l
 apart_points x y [] h = tt
@@ -104,28 +100,24 @@ module _ (s : State) (p : Location) where
       (by_count_lem (λ c. length c.points ≤ 10) (within s p)
       (λ l. taken_most 4 (omega arith)) (λ k l. taken_most (within s p) l) (λ l. taken_most 10 (omega arith)))
 
-module _ (s : State) (scaled : ScalesInRange s.contents.metric) (p : Location) where
   -- where no point is at p, no chosen one is
   pub chosen_apart : coincident s p ≡ false → All (λ a. 0 < distance s p a) (choice s p).points
   unfolding distance
   chosen_apart h =
       all_imp (λ a. at p.x p.y a ≡ false) (λ a. 0 < distance s p a)
-      (λ a e. distance_pos (squared s p a) (squared_apart s scaled p a e))
+      (λ a e. distance_pos (squared s p a) (squared_apart s p a e))
       (choice s p).points
-      (chosen_all s p (λ a. at p.x p.y a ≡ false) (apart_points p.x p.y s.contents.points (sym (coincident_is s scaled p) ∙ h)))
+      (chosen_all (λ a. at p.x p.y a ≡ false) (apart_points p.x p.y s.contents.points (sym (coincident_is s p) ∙ h)))
 
   module _ (domain : (p.x < 4096) × (p.y < 4096)) where
-    pub point_farthest : (a : Point) → Inside a → distance s p a ≤ farthest
+    pub point_most : (a : Point) → Inside a → distance s p a ≤ 2 ^ 24
     unfolding distance squared
-    point_farthest a h =
-        let g : across s p a ≤ 32760 = gap_most _ p.x a.x scaled.x.1 domain.0 h.0 in
-        let k : up s p a ≤ 32760 = gap_most _ p.y a.y scaled.y.1 domain.1 h.1 in
+    point_most a h =
+        let g : gap p.x a.x ≤ 4095 = gap_most p.x a.x domain.0 h.0 in
+        let k : gap p.y a.y ≤ 4095 = gap_most p.y a.y domain.1 h.1 in
         let u = mul-le-mul g g in
         let v = mul-le-mul k k in
         distance_most (squared s p a) (omega arith)
-
-    pub point_most : (a : Point) → Inside a → distance s p a ≤ 2 ^ 24
-    point_most a h = omega (arith, point_farthest a h)
 
     -- R0 is read from what is kept, so its bound is asked for
     module _ (inside : All Inside s.contents.points) (kept : s.extent.radius ≤ 2 ^ 24) where
@@ -133,7 +125,7 @@ module _ (s : State) (scaled : ScalesInRange s.contents.metric) (p : Location) w
       unfolding distance_at
       distance_at_most i =
           point_most (get_or (ordered s p) i no_point)
-          (all_at Inside (ordered s p) i no_point (omega arith, omega arith) (ordered_all s p Inside inside))
+          (all_at Inside (ordered s p) i no_point (omega arith, omega arith) (ordered_all Inside inside))
 
       few_most : (t : Bool) (n : ℕ) → n ≤ 2 ^ 24 → cond t 0 n ≤ 2 ^ 24
       few_most true n h = omega arith
@@ -142,16 +134,16 @@ module _ (s : State) (scaled : ScalesInRange s.contents.metric) (p : Location) w
       pub chosen_radius : (choice s p).radius ≤ 2 ^ 24
       unfolding choice_apart
       chosen_radius =
-          by_choice s p (λ c. c.radius ≤ 2 ^ 24) (omega arith)
-          (by_count_lem s p (λ c. c.radius ≤ 2 ^ 24) (within s p)
+          by_choice (λ c. c.radius ≤ 2 ^ 24) (omega arith)
+          (by_count_lem (λ c. c.radius ≤ 2 ^ 24) (within s p)
           (λ l. few_most (few s) (distance_at s p 4) (distance_at_most 4)) (λ k l. kept) (λ l. distance_at_most 10))
 
 -- the first chosen point is at p exactly where some point is
-module _ (s : State) (scaled : ScalesInRange s.contents.metric) (p : Location) where
+module _ (s : State) (p : Location) where
   starts_zero : (l : List Point) → starts_at p l ≡ true → distance s p (get_or (take 1 l) 0 no_point) ≡ 0
   unfolding starts_at distance
   starts_zero [] h = absurd (false≢true h)
-  starts_zero (a ∷ l) h = ap distance_of ((squared_zero s scaled p a).1 h)
+  starts_zero (a ∷ l) h = ap distance_of ((squared_zero s p a).1 h)
 
   pub first_at : coincident s p ≡ true → distance s p (first_chosen s p) ≡ 0
   unfolding first_chosen coincident
@@ -159,4 +151,4 @@ module _ (s : State) (scaled : ScalesInRange s.contents.metric) (p : Location) w
 
   pub first_apart : 0 < length s.contents.points → coincident s p ≡ false → 0 < distance s p (first_chosen s p)
   unfolding first_chosen
-  first_apart n h = all_below (λ a. 0 < distance s p a) (choice s p).points 0 no_point (chosen_apart s scaled p h) (chosen_some s p n)
+  first_apart n h = all_below (λ a. 0 < distance s p a) (choice s p).points 0 no_point (chosen_apart s p h) (chosen_some s p n)

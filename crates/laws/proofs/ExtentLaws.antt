@@ -3,7 +3,7 @@
 use mathlib.Core.Path.{◌≡◌, refl, ap}
 use mathlib.Core.Logic.{◌⊎◌, inl, inr, ⊎_swap}
 use Prim.Native.Nat.{ℕ, ◌*◌, ◌/◌, ◌^◌, ◌≤◌, ◌<◌, min, max}
-use native.Mathlib.Nat.{le_refl, mul-zero, mul-le-mul, le_of_mul-le-mul_right, le-div_iff_mul-le}
+use native.Mathlib.Nat.{le_refl, le_of_mul-le-mul_right, le-div_iff_mul-le}
 use native.Mathlib.Omega.{arith, min_cases, max_cases}
 use mathlib.Core.Bool.{Bool, true, false, cond}
 use mathlib.Core.List.{List, [], ◌∷◌, map}
@@ -13,11 +13,10 @@ use lib.Signed.{le_z, ◌≤ℤ◌}
 use Rattle.model.specs.Lists.{All, Some, through}
 use Rattle.model.specs.Point.{Point, Contents, Extent, location, at}
 use Rattle.model.specs.Distance.{root_in, root}
-use Rattle.model.specs.Polygon.{enclosed}
 use Rattle.model.specs.Radius.{locations, twice_area, radius_of, initial_radius}
 use Rattle.model.specs.Extent.{xs, ys, lesser, greater, values_by, zeros, extent_of, IsExtent, Shrinks}
 use Rattle.model.specs.Calls.{Drop, remove, refusal, accepted, after}
-use Rattle.model.specs.Invariant.{Invariant, ScalesInRange}
+use Rattle.model.specs.Invariant.{Invariant}
 use Rattle.laws.proofs.ListLaws.{all_imp, all_both, all_among, all_map, all_of_map}
 use Rattle.laws.proofs.ThroughLaws.{through_keeps_some, through_all, through_some}
 use Rattle.laws.proofs.ValueLaws.{least_all, greatest_all}
@@ -30,7 +29,7 @@ use Rattle.laws.proofs.DropLaws.{removed_free, removed_one}
 
 pub ends_none : (q : Contents) → q.points ≡ [] → extent_of q ≡ zeros
 unfolding extent_of initial_radius twice_area radius_of root root_in through values_by
-ends_none q e = rw (e, mul-zero)
+ends_none q e = rw e
 
 -- min and max, lesser and greater give one of the two
 min_either : (a b : ℕ) → (min a b ≡ a) ⊎ (min a b ≡ b)
@@ -82,14 +81,14 @@ module _ (q : Contents) (some : 0 < length q.points) where
     radius = radius_is (twice_area q) (length l) some;
   }
 
--- R0 in the domain, where each point more encloses at most twice the domain's area, 64 times with both scales 8
-below : (k n a : ℕ) → 0 < n → k * (355 * n * 2) ≤ 65536 * 7 * 113 * a → a ≤ n * 2146435200 → k < 16777217 * 16777217
+-- R0 in the domain, where each point more encloses at most twice the domain's area
+below : (k n a : ℕ) → 0 < n → k * (355 * n * 2) ≤ 65536 * 7 * 113 * a → a ≤ n * 33538050 → k < 16777217 * 16777217
 below k n a h g l =
-    let e : k * (355 * n * 2) ≤ 156716928000000 * (355 * n * 2) = omega arith in
-    let m : k ≤ 156716928000000 = le_of_mul-le-mul_right e (omega arith) in
+    let e : k * (355 * n * 2) ≤ 2448702000000 * (355 * n * 2) = omega arith in
+    let m : k ≤ 2448702000000 = le_of_mul-le-mul_right e (omega arith) in
     omega arith
 
-radius_most : (a n : ℕ) → 0 < n → a ≤ n * 2146435200 → radius_of a n ≤ 2 ^ 24
+radius_most : (a n : ℕ) → 0 < n → a ≤ n * 33538050 → radius_of a n ≤ 2 ^ 24
 unfolding radius_of
 radius_most a n h k =
     let q = 65536 * 7 * 113 * a / (355 * n * 2) in
@@ -97,27 +96,22 @@ radius_most a n h k =
     (root_le_iff q (2 ^ 24)).1 (below q n a h ((le-div_iff_mul-le m).0 (le_refl q)) k)
 
 -- the points enclose no more, in any order
-pub enclosed_points : (l : List Point) → All Inside l → enclosed (locations l) ≤ length l * 33538050
-enclosed_points l inside =
-    let k =
-    enclosed_most 4095 (locations l)
-    (all_among (λ b. (b.x ≤ 4095) × (b.y ≤ 4095)) (locations l)
-    (all_map _ _ l (all_imp Inside _ (λ a h. (omega (arith, h.0), omega (arith, h.1))) l inside))) in
-    omega (arith, k, length-map l (λ (a : Point). location a.x a.y))
-
-pub twice_most : (q : Contents) → ScalesInRange q.metric → All Inside q.points → twice_area q ≤ length q.points * 2146435200
+pub twice_most : (q : Contents) → All Inside q.points → twice_area q ≤ length q.points * 33538050
 unfolding twice_area
-twice_most q scaled inside =
-    let m : q.metric.scale_x * q.metric.scale_y ≤ 8 * 8 = mul-le-mul scaled.x.1 scaled.y.1 in
-    omega (arith, mul-le-mul m (enclosed_points q.points inside))
+twice_most q inside =
+    let k =
+    enclosed_most 4095 (locations q.points)
+    (all_among (λ b. (b.x ≤ 4095) × (b.y ≤ 4095)) (locations q.points)
+    (all_map _ _ q.points (all_imp Inside _ (λ a h. (omega (arith, h.0), omega (arith, h.1))) q.points inside))) in
+    omega (arith, k, length-map q.points (λ (a : Point). location a.x a.y))
 
-pub kept_most : (q : Contents) → ScalesInRange q.metric → All Inside q.points → (extent_of q).radius ≤ 2 ^ 24
+pub kept_most : (q : Contents) → All Inside q.points → (extent_of q).radius ≤ 2 ^ 24
 unfolding extent_of initial_radius
-kept_most q scaled inside = go q.points refl
+kept_most q inside = go q.points refl
   where
     go : (l : List Point) → q.points ≡ l → (extent_of q).radius ≤ 2 ^ 24
     go [] e = let z : initial_radius q ≡ 0 = ap (λ (e : Extent). e.radius) (ends_none q e) in omega arith
-    go (a ∷ l) e = radius_most (twice_area q) (length q.points) (rw e (omega arith)) (twice_most q scaled inside)
+    go (a ∷ l) e = radius_most (twice_area q) (length q.points) (rw e (omega arith)) (twice_most q inside)
 
 -- a drop, accepted, of one point of more
 module _ (x y : ℕ) (q : Contents) (ordered : Invariant q.points) (yes : refusal (Drop x y) q ≡ 0) (more : 1 < length q.points) where

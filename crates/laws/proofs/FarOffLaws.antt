@@ -1,4 +1,4 @@
--- A lookup gives the same in two states at the same locations, with the same scales, whose values differ only at points that it does not choose: document 02, §5.
+-- A lookup gives the same in two states at the same locations whose values differ only at points that it does not choose: document 02, §5.
 use mathlib.Core.Path.{◌≡◌, refl, sym, ap, ◌∙◌}
 use mathlib.Core.Logic.{inl, inr}
 use Prim.Native.Nat.{ℕ}
@@ -67,7 +67,7 @@ module _ (s t : State) (alike : Alike s.contents t.contents) (kept : s.extent.ra
   choice_same =
       let l = s.contents.points in
       let m = t.contents.points in
-      let c = choice_paired s t alike.metric p kept Shared (λ a b h. h.0) (beside_both Together (Spares s p) Shared (λ a b h g. (h, g)) l m (together s t alike kept p) spared) in
+      let c = choice_paired s t p kept Shared (λ a b h. h.0) (beside_both Together (Spares s p) Shared (λ a b h g. (h, g)) l m (together s t alike kept p) spared) in
       choice_is (choice s p) (choice t p) (points_same (choice s p).points (choice t p).points c.points (taken_self (choice s p).points)) c.radius
 
   neighbourhood_whole : neighbourhood s p ≡ neighbourhood t p
@@ -78,7 +78,7 @@ module _ (s t : State) (alike : Alike s.contents t.contents) (kept : s.extent.ra
 
   records_alike : (r : ℕ) (l : List Point) → map (neighbour_of s p r) l ≡ map (neighbour_of t p r) l
   unfolding neighbour_of
-  records_alike r l = map_same (neighbour_of s p r) (neighbour_of t p r) l (all_any (λ a. neighbour_of s p r a ≡ neighbour_of t p r a) (λ a. rw (few_alike s t alike kept p, distance_same s t alike.metric p (itself a))) l)
+  records_alike r l = map_same (neighbour_of s p r) (neighbour_of t p r) l (all_any (λ a. neighbour_of s p r a ≡ neighbour_of t p r a) (λ a. rw (few_alike s t alike kept p, distance_same s t p (itself a))) l)
 
   records_same : neighbours s p ≡ neighbours t p
   unfolding neighbours
@@ -107,7 +107,7 @@ module _ (x y : ℕ) (z : ℤ) where
   unfolding after accepted
   change_alike q =
       cond_cases (λ r. Alike q r) (eqb (refusal (Change x y z) q) 0)
-      (λ _. record { locations = revalued_locations q.points; metric = refl }) (λ _. record { locations = refl; metric = refl })
+      (λ _. record { locations = revalued_locations q.points }) (λ _. record { locations = refl })
 
   module _ (q : Contents) (p : Location) (unchosen : taken x y (choice (settled q) p).points ≡ false) where
     same_list : (l : List Point) → Beside (Spares (settled q) p) l l

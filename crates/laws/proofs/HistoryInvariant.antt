@@ -11,7 +11,7 @@ use borrow.Author.Tests.{eqb-true}
 use Rattle.model.specs.Lists.{All}
 use Rattle.model.specs.Point.{Point, Contents, point, at, precedes}
 use Rattle.model.specs.Order.{insert}
-use Rattle.model.specs.Calls.{Call, Add, Change, Drop, Clear, Load, Scale, Ask, fresh, taken, remove, revalue, refusal, accepted, after, after_all, present}
+use Rattle.model.specs.Calls.{Call, Add, Change, Drop, Clear, Load, Ask, fresh, taken, remove, revalue, refusal, accepted, after, after_all, present}
 use Rattle.model.specs.Invariant.{Sound, Invariant}
 use Rattle.laws.proofs.Tests.{cond_cases}
 use Rattle.laws.proofs.ListLaws.{all_imp}
@@ -86,7 +86,6 @@ accepted_keeps (Drop x y) q e h =
     }
 accepted_keeps Clear q e h = fresh_invariant
 accepted_keeps (Load f) q e h = accepted_invariant f e
-accepted_keeps (Scale m n) q e h = h
 accepted_keeps Ask q e h = h
 
 pub after_invariant : (c : Call) (q : Contents) → Invariant q.points → Invariant (after c q).points

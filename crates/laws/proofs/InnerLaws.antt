@@ -5,7 +5,6 @@ use native.Mathlib.Omega.{arith}
 use lib.IntN.{ℤ, pos, neg_ℤ, nat_abs, ◌+ℤ◌, ◌-ℤ◌, ◌*ℤ◌}
 use Rattle.model.specs.Point.{Location, Point, State}
 use Rattle.model.specs.Distance.{distance, offset_x, offset_y, inner}
-use Rattle.model.specs.Invariant.{ScalesInRange}
 use Rattle.model.specs.Weight.{excess_of}
 use Rattle.laws.proofs.IntLaws.{abs_minus, abs_neg, abs_times}
 use Rattle.laws.proofs.DiffLaws.{abs_sum}
@@ -31,20 +30,17 @@ module _ (t u v w : ℤ) (ht : nat_abs t ≤ 2 ^ 15) (hu : nat_abs u ≤ 2 ^ 15)
 abbrev InDomain : ℕ → ℕ → Type 0
 InDomain x y = (x < 4096) × (y < 4096)
 
--- a difference of coordinates, up to eight times
-pub difference_size : (k m n : ℕ) → k ≤ 8 → m < 4096 → n < 4096 → nat_abs (pos k *ℤ (pos m -ℤ pos n)) < 2 ^ 15
-difference_size k m n h f g =
-    let e : nat_abs (pos m -ℤ pos n) ≤ 4095 = omega (arith, abs_minus m n) in
-    omega (arith, abs_times (pos k) (pos m -ℤ pos n), mul-le-mul h e)
+difference_size : (m n : ℕ) → m < 4096 → n < 4096 → nat_abs (pos m -ℤ pos n) < 2 ^ 15
+difference_size m n h k = omega (arith, abs_minus m n)
 
-module _ (s : State) (scaled : ScalesInRange s.contents.metric) (p : Location) (P : InDomain p.x p.y) where
+module _ (s : State) (p : Location) (P : InDomain p.x p.y) where
   pub offset_x_most : (a : Point) → InDomain a.x a.y → nat_abs (offset_x s p a) < 2 ^ 15
   unfolding offset_x
-  offset_x_most a A = difference_size s.contents.metric.scale_x a.x p.x scaled.x.1 A.0 P.0
+  offset_x_most a A = difference_size a.x p.x A.0 P.0
 
   pub offset_y_most : (a : Point) → InDomain a.x a.y → nat_abs (offset_y s p a) < 2 ^ 15
   unfolding offset_y
-  offset_y_most a A = difference_size s.contents.metric.scale_y a.y p.y scaled.y.1 A.1 P.1
+  offset_y_most a A = difference_size a.y p.y A.1 P.1
 
   pub excess_most : (a b : Point) → InDomain a.x a.y → InDomain b.x b.y → distance s p a ≤ 2 ^ 24 → distance s p b ≤ 2 ^ 24 → excess_of s p a b ≤ 2 ^ 53
   unfolding excess_of inner

@@ -25,7 +25,6 @@ pub mod OrderLaws
 pub mod SortLaws
 pub mod BesideLaws
 pub mod PartLaws
-pub mod ScaleLaws
 pub mod ChoiceLaws
 pub mod NearestLaws
 pub mod ChosenLaws

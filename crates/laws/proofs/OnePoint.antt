@@ -20,7 +20,6 @@ use Rattle.model.specs.Weight.{Neighbourhood, neighbourhood_of, neighbourhood, w
 use Rattle.model.specs.Mean.{Near, weighted_mean, first_chosen, mean}
 use Rattle.laws.proofs.IntLaws.{times_one, neg_times, times_times, abs_neg, abs_minus, abs_plus}
 use Rattle.laws.proofs.RootLaws.{distance_pos}
-use Rattle.laws.proofs.ScaleLaws.{unscaled_in_range}
 use Rattle.laws.proofs.ChoiceLaws.{squared_apart}
 
 -- a fraction of value z
@@ -124,7 +123,7 @@ module _ (x y : ℕ) (z : ℤ) (p : Location) where
   weighted_one : at p.x p.y (point x y z) ≡ false → Whole (weighted_mean (neighbourhood_of one p chosen)) z
   unfolding neighbourhood_of
   weighted_one h =
-      let d : 0 < distance one p (point x y z) = distance_pos (squared one p (point x y z)) (squared_apart one unscaled_in_range p (point x y z) h) in
+      let d : 0 < distance one p (point x y z) = distance_pos (squared one p (point x y z)) (squared_apart one p (point x y z) h) in
       single_whole _ _ _ _ (distance one p (point x y z)) d (influence_one (distance one p (point x y z)) d)
 
   mean_one : Whole (mean one p) z

@@ -38,7 +38,7 @@ module _ (s : State) (p : Location) (c : Chosen) (A : Asked s p c) where
   inside = all_imp (λ a. in_domain a.x a.y ≡ true) Inside (λ a h. domain_bounds a.x a.y h) s.contents.points A.inside
 
   pub in_range_lem : LookupInRange s p
-  in_range_lem = record { domain = A.domain; scaled = A.scaled; some = A.some; inside = inside; kept = A.kept; values = A.chose.values }
+  in_range_lem = record { domain = A.domain; some = A.some; inside = inside; kept = A.kept; values = A.chose.values }
 
   abbrev first : Neighbour
   first = item_at c 0
@@ -64,9 +64,9 @@ module _ (s : State) (p : Location) (c : Chosen) (A : Asked s p c) where
   bounded = record {
     size = A.chose.size;
     near = λ i l. rw (item_is s p c A.chose i l) (record {
-      distance = near_all (λ a. distance s p a ≤ 2 ^ 24) (λ a h. point_most s A.scaled p A.domain a h) i l;
-      dx = near_all (λ a. nat_abs (offset_x s p a) < 2 ^ 15) (λ a h. offset_x_most s A.scaled p A.domain a h) i l;
-      dy = near_all (λ a. nat_abs (offset_y s p a) < 2 ^ 15) (λ a h. offset_y_most s A.scaled p A.domain a h) i l;
+      distance = near_all (λ a. distance s p a ≤ 2 ^ 24) (λ a h. point_most s p A.domain a h) i l;
+      dx = near_all (λ a. nat_abs (offset_x s p a) < 2 ^ 15) (λ a h. offset_x_most s p A.domain a h) i l;
+      dy = near_all (λ a. nat_abs (offset_y s p a) < 2 ^ 15) (λ a h. offset_y_most s p A.domain a h) i l;
     });
   }
 
@@ -79,13 +79,13 @@ module _ (s : State) (p : Location) (c : Chosen) (A : Asked s p c) where
     where
       go : (t : Bool) → coincident s p ≡ t → t ≡ true
       go true e = refl
-      go false e = absurd (lt_irrefl 0 (rw (sym first_distance ∙ h) at (first_apart s A.scaled p A.some e)))
+      go false e = absurd (lt_irrefl 0 (rw (sym first_distance ∙ h) at (first_apart s p A.some e)))
 
   pub apart : (first.distance ≡ 0 → ⊥) → coincident s p ≡ false
   apart h = go (coincident s p) refl
     where
       go : (t : Bool) → coincident s p ≡ t → t ≡ false
-      go true e = absurd (h (first_distance ∙ first_at s A.scaled p e))
+      go true e = absurd (h (first_distance ∙ first_at s p e))
       go false e = refl
 
   pub answer_first : first.distance ≡ 0 → answer s p ≡ (pos 256 *ℤ first.z) +ℤ pos 0

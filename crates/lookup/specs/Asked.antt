@@ -2,14 +2,13 @@
 use Rattle.std.specs.Prelude.{◌≡◌, ℕ, ◌^◌, ◌≤◌, ◌<◌, true, List, ℤ, length}
 use Rattle.model.specs.Lists.{All}
 use Rattle.model.specs.Point.{Location, Point, State, in_domain}
-use Rattle.model.specs.Invariant.{ScalesInRange}
 use Rattle.point_arrays.specs.PointArrays.{HoldsPoints}
 use Rattle.metric.specs.declared.Viewpoint.{Viewpoint}
 use Rattle.metric.specs.From.{Sees, Proper}
 use Rattle.neighbours.specs.declared.Chosen.{Chosen}
 use Rattle.neighbours.specs.Chose.{Chose}
 
--- of a lookup of s at p: arrays that hold its points, one or more, a viewpoint in the domain with scales from 1 to 8, and the kept R0, at most 2²⁴
+-- of a lookup of s at p: arrays that hold its points, one or more, a viewpoint in the domain, and the kept R0, at most 2²⁴
 pub record Handed (s : State) (p : Location) (xs ys : List ℕ) (zs : List ℤ) (n : ℕ) (v : Viewpoint) (r0 : ℕ) : Type 0 where
   pub points : HoldsPoints s xs ys zs n
   pub some : 0 < n
@@ -18,10 +17,9 @@ pub record Handed (s : State) (p : Location) (xs ys : List ℕ) (zs : List ℤ) 
   pub radius : r0 ≡ s.extent.radius
   pub reach : r0 ≤ 2 ^ 24
 
--- the neighbours of a location in the domain, of a survey of one point or more, all in the domain, with scales from 1 to 8 and a kept R0 of at most 2²⁴
+-- the neighbours of a location in the domain, of a survey of one point or more, all in the domain, with a kept R0 of at most 2²⁴
 pub record Asked (s : State) (p : Location) (c : Chosen) : Type 0 where
   pub domain : (p.x < 4096) × (p.y < 4096)
-  pub scaled : ScalesInRange s.contents.metric
   pub some : 0 < length s.contents.points
   pub inside : All (λ (a : Point). in_domain a.x a.y ≡ true) s.contents.points
   pub kept : s.extent.radius ≤ 2 ^ 24

@@ -1,19 +1,18 @@
--- The calls on a survey, why those that edit it are refused, and what is present after a list of them: document 01, "Survey calls" and "Refused", and document 02's §7.
+-- The calls on a survey, why those that edit it are refused, and what is present after a list of them: document 01, "Survey calls" and "Refused".
 use Rattle.std.specs.Prelude.{ℕ, Bool, false, cond, ◌||◌, List, [], ◌∷◌, ltb, eqb, ℤ, length}
-use Rattle.model.specs.Point.{Point, Contents, State, point, contents_of, with_points, with_scales, at, precedes}
+use Rattle.model.specs.Point.{Point, Contents, State, point, contents_of, with_points, at, precedes}
 use Rattle.model.specs.Extent.{settled}
 use Rattle.model.specs.Order.{insert}
-use Rattle.model.specs.Refusals.{on_domain, within_range, scales_refusal}
+use Rattle.model.specs.Refusals.{on_domain, within_range}
 use Rattle.model.specs.SurveyFile.{file_refusal, file_points}
 
--- a call with what it is handed: x, y and z, a file's bytes, or the scales p and q. Ask is every call that only asks, as a lookup, a grid, a row or a file written: whatever it is handed, it leaves what is present
+-- a call with what it is handed: x, y and z, or a file's bytes. Ask is every call that only asks, as a lookup, a grid, a row or a file written: whatever it is handed, it leaves what is present
 pub data Call : Type 0 where
   Add : ℕ → ℕ → ℤ → Call
   Change : ℕ → ℕ → ℤ → Call
   Drop : ℕ → ℕ → Call
   Clear : Call
   Load : List ℕ → Call
-  Scale : ℕ → ℕ → Call
   Ask : Call
 
 -- a fresh survey
@@ -43,7 +42,6 @@ refusal (Change x y z) q = on_domain x y (within_range z (cond (taken x y q.poin
 refusal (Drop x y) q = on_domain x y (cond (taken x y q.points) 0 4)
 refusal Clear q = 0
 refusal (Load f) q = file_refusal f
-refusal (Scale m n) q = scales_refusal m n
 refusal Ask q = 0
 
 -- what an accepted call leaves
@@ -54,7 +52,6 @@ accepted (Change x y z) q = with_points q (revalue x y z q.points)
 accepted (Drop x y) q = with_points q (remove x y q.points)
 accepted Clear q = fresh
 accepted (Load f) q = contents_of (file_points f)
-accepted (Scale m n) q = with_scales q m n
 accepted Ask q = q
 
 -- what a call leaves: a refused one changes nothing

@@ -1,4 +1,4 @@
--- Squared distance d², distance D in 256ths of a step, and the inner product of two offsets: document 01, "Distance", with the scales of document 02's §7.
+-- Squared distance d², distance D in 256ths of a step, and the inner product of two offsets: document 01, "Distance".
 use Rattle.std.specs.Prelude.{ℕ, zero, suc, ◌+◌, ◌-◌, ◌*◌, ◌/◌, ◌≤◌, ◌<◌, cond, true, false, leb, eqb, ℤ, pos, ◌+ℤ◌, ◌-ℤ◌, ◌*ℤ◌}
 use Rattle.model.specs.Point.{Location, Point, State}
 
@@ -25,16 +25,9 @@ root n = root_in n n
 abbrev pub gap : ℕ → ℕ → ℕ
 gap m n = (m - n) + (n - m)
 
--- the differences of a point from p in x and in y, as often as the scales say
-abbrev pub across : State → Location → Point → ℕ
-across s p a = s.contents.metric.scale_x * gap p.x a.x
-
-abbrev pub up : State → Location → Point → ℕ
-up s p a = s.contents.metric.scale_y * gap p.y a.y
-
 -- d²
 unfoldable pub squared : State → Location → Point → ℕ
-squared s p a = across s p a * across s p a + up s p a * up s p a
+squared s p a = gap p.x a.x * gap p.x a.x + gap p.y a.y * gap p.y a.y
 
 -- D of a squared distance, and of a point
 unfoldable pub distance_of : ℕ → ℕ
@@ -45,12 +38,12 @@ unfoldable pub distance : State → Location → Point → ℕ
 unfolding distance_of squared
 distance s p a = distance_of (squared s p a)
 
--- a point's offset from p, in x and in y: the same differences with their signs
+-- a point's offset from p, in x and in y
 unfoldable pub offset_x : State → Location → Point → ℤ
-offset_x s p a = pos s.contents.metric.scale_x *ℤ (pos a.x -ℤ pos p.x)
+offset_x s p a = pos a.x -ℤ pos p.x
 
 unfoldable pub offset_y : State → Location → Point → ℤ
-offset_y s p a = pos s.contents.metric.scale_y *ℤ (pos a.y -ℤ pos p.y)
+offset_y s p a = pos a.y -ℤ pos p.y
 
 -- g, the inner product of the offsets of two points from p
 unfoldable pub inner : State → Location → Point → Point → ℤ

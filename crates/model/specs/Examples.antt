@@ -1,11 +1,11 @@
 -- Closed cases that hold the definitions to documents 01 and 02: the starred rows of the bench table, `closed-rows`; rows of our own that these cannot replace,
--- `further`, `far-off`, `polygons`, `calls`, `kept`, `lent`, `files`, `refusals`, `scales`, `scale-calls`, `grids`, `rows`, `rows-between`, `rows-scaled`, `readings`, `decimals`, `decimals-read`, `cell-texts` and `texts`; and the whole case, as a grid file and as an Esri ASCII grid.
+-- `further`, `far-off`, `polygons`, `calls`, `kept`, `lent`, `files`, `refusals`, `grids`, `rows`, `rows-between`, `readings`, `decimals`, `decimals-read`, `cell-texts` and `texts`; and the whole case, as a grid file and as an Esri ASCII grid.
 use Rattle.std.specs.Prelude.{ℕ, ◌+◌, ◌≡◌, refl, true, false, List, [], ◌∷◌, ◌++◌, map, reverse, ℤ, pos, negsuc, replicate, set}
-use Rattle.std.proofs.Common.{ap, arith, true≢false, inl, inr, ⊎_elim, lit<}
+use Rattle.std.proofs.Common.{arith, true≢false, inl, inr, ⊎_elim, lit<}
 use Rattle.std.proofs.Math.Option.{Option, none, some}
 use Rattle.std.proofs.Math.IntN.{pos-ne-negsuc}
 use Rattle.model.specs.Lists.{tabulate}
-use Rattle.model.specs.Point.{Location, Point, Metric, Contents, State, point, location, scales_of, unscaled, contents_of, with_scales}
+use Rattle.model.specs.Point.{Location, Point, Contents, State, point, location, contents_of}
 use Rattle.model.specs.Distance.{distance}
 use Rattle.model.specs.Polygon.{polygon, enclosed}
 use Rattle.model.specs.Radius.{locations, radius_of}
@@ -19,8 +19,7 @@ use Rattle.model.specs.Answer.{Neighbour, answer, chosen_count, neighbours}
 use Rattle.model.specs.Refusals.{lookup_refusal, neighbours_refusal}
 use Rattle.model.specs.Lent.{neighbours_into}
 use Rattle.model.specs.SurveyFile.{fault, wrong_size, file_refusal, file_of}
-use Rattle.model.specs.Calls.{Call, Add, Change, Drop, Clear, Load, Scale, Ask, refusal, fresh, after, present, edited}
-use Rattle.model.specs.Scales.{last_scales}
+use Rattle.model.specs.Calls.{Call, Add, Change, Drop, Clear, Load, Ask, refusal, fresh, after, present, edited}
 use Rattle.model.specs.FarOff.{Alike, Spared}
 use Rattle.model.specs.Grid.{Grid, grid_refusal, cells}
 use Rattle.model.specs.Filling.{GivenRow, NoGrid, Begun, begin_refusal, row_refusal, row_into}
@@ -141,7 +140,7 @@ pub far_off : Alike (aside (pos 5)).contents (aside (negsuc 125)).contents
     × (map (λ z. answer (aside z) (location 227 236)) (pos 5 ∷ negsuc 125 ∷ []) ≡ pos 1280 ∷ negsuc 32255 ∷ [])
 unfolding mean answer choice neighbours extent_of
 far_off = (
-  record { locations = refl; metric = refl },
+  record { locations = refl },
   (inl refl, (inl refl, (inl refl, (inl refl, (inr refl, tt))))),
   refl,
   refl,
@@ -272,73 +271,6 @@ pub refusals : (grid_program [] ≡ 114 ∷ 101 ∷ 102 ∷ 117 ∷ 115 ∷ 101 
 unfolding grid_program
 refusals = (refl, refl, refl)
 
--- points with the scales m and n
-abbrev on_scales : ℕ → ℕ → List Point → State
-on_scales m n l = settled (with_scales (contents_of l) m n)
-
--- two points, of which the second is the nearer one where differences in y count three times
-abbrev pair : List Point
-pair = point 1 1 (pos 0) ∷ point 3 0 (pos 100) ∷ []
-
--- §7: corner to corner with both scales 8; differences in x three times and in y five times; a cosine by the inner product so taken, in x and in y; the order;
--- R0 by an area so often; records with the locations as they are; where all four are at the edge, scales of 3 and 3 or 8 and 8 leave the mean, and unlike ones do not; surveys of unlike scales are not alike
-pub scales : (distance (on_scales 8 8 []) (location 0 0) (point 4095 4095 (pos 0)) ≡ 11860386)
-    × (map (distance (on_scales 3 5 []) (location 7 7)) (point 8 7 (pos 0) ∷ point 6 7 (pos 0) ∷ point 7 6 (pos 0) ∷ point 8 8 (pos 0) ∷ []) ≡ 768 ∷ 768 ∷ 1280 ∷ 1492 ∷ [])
-    × Is (mean (on_scales 3 1 pair) (location 0 0)) (pos 211382072900) 18856564793
-    × Is (mean (on_scales 1 3 pair) (location 0 0)) (pos 137570207300) 2632027193
-    × Is (mean (on_scales 1 3 (point 0 3 (pos 100) ∷ point 1 1 (pos 0) ∷ [])) (location 0 0)) (pos 211382072900) 18856564793
-    × (map shown (neighbours (on_scales 3 1 pair) (location 0 0)) ≡ (1 ∷ 1 ∷ 809 ∷ 1 ∷ []) ∷ (3 ∷ 0 ∷ 2304 ∷ 1 ∷ []) ∷ [])
-    × (map shown (neighbours (on_scales 1 3 pair) (location 0 0)) ≡ (3 ∷ 0 ∷ 768 ∷ 1 ∷ []) ∷ (1 ∷ 1 ∷ 809 ∷ 1 ∷ []) ∷ [])
-    × (map (λ m. (on_scales m 5 five.contents.points).extent.radius) (1 ∷ 3 ∷ 8 ∷ []) ≡ 2833 ∷ 4908 ∷ 8015 ∷ [])
-    × ((on_scales 8 8 ring).extent.radius ≡ 7591)
-    × ((choice (on_scales 3 1 five.contents.points) middle).radius ≡ 3840)
-    × (kinds (on_scales 3 1 five.contents.points) middle ≡ 1 ∷ 1 ∷ 2 ∷ 3 ∷ [])
-    × (map (λ n. answer (on_scales 3 n five.contents.points) middle) (1 ∷ 3 ∷ 5 ∷ []) ≡ pos 805 ∷ pos 6272 ∷ pos 108 ∷ [])
-    × (answer (on_scales 1 3 five.contents.points) middle ≡ pos 59)
-    × (answer (on_scales 8 8 ring) middle ≡ pos 640)
-    × (Alike five.contents (with_scales five.contents 1 2) → ⊥)
-unfolding mean answer choice neighbours extent_of distance
-scales = (
-  refl,
-  refl,
-  (refl, lit< tt),
-  (refl, lit< tt),
-  (refl, lit< tt),
-  refl,
-  refl,
-  refl,
-  refl,
-  refl,
-  refl,
-  refl,
-  refl,
-  refl,
-  λ h. let e : ◌≡◌ {A = ℕ} 1 2 = ap (λ (m : Metric). m.scale_y) h.metric in absurd (omega arith),
-)
-
--- calls of every kind, all but a clear and a load that is accepted, and scales that are refused
-abbrev keepers : List Call
-keepers = Add 1 2 (pos 3) ∷ Add 1 2 (pos 3) ∷ Scale 9 4 ∷ Scale 4 0 ∷ Change 1 2 (pos 4) ∷ Change 2 2 (pos 4) ∷ Add 5 5 (pos 0) ∷ Drop 5 5 ∷ Drop 5 5 ∷ Load [] ∷ Ask ∷ []
-
--- 18 outside 1 to 8, for either scale, of no point and of 256; set before a point is there; kept by every other call, and set to 1 by a clear and by a load, of the same points too;
--- what is kept is renewed, and a refused call renews nothing
-pub scale_calls : (map (λ m. refusal (Scale m 1) fresh) (0 ∷ 1 ∷ 8 ∷ 9 ∷ 4294967295 ∷ []) ≡ 18 ∷ 0 ∷ 0 ∷ 18 ∷ 18 ∷ [])
-    × (map (λ n. refusal (Scale 8 n) full) (0 ∷ 1 ∷ 8 ∷ 9 ∷ 4294967295 ∷ []) ≡ 18 ∷ 0 ∷ 0 ∷ 18 ∷ 18 ∷ [])
-    × (refusal (Scale 0 9) fresh ≡ 18)
-    × (present (Scale 2 3 ∷ keepers) ≡ with_scales (contents_of (point 1 2 (pos 4) ∷ [])) 2 3)
-    × (present (Scale 2 3 ∷ keepers ++ Scale 8 1 ∷ []) ≡ with_scales (contents_of (point 1 2 (pos 4) ∷ [])) 8 1)
-    × (present (Scale 2 3 ∷ keepers ++ Clear ∷ []) ≡ fresh)
-    × (present (Scale 2 3 ∷ keepers ++ Load (file_of (point 1 2 (pos 4) ∷ [])) ∷ []) ≡ contents_of (point 1 2 (pos 4) ∷ []))
-    × (present (Clear ∷ Scale 2 3 ∷ []) ≡ with_scales fresh 2 3)
-    × (last_scales (Scale 2 3 ∷ keepers) unscaled ≡ scales_of 2 3)
-    × (last_scales (Scale 2 3 ∷ Clear ∷ keepers) unscaled ≡ unscaled)
-    × (ends (edited (Scale 3 5) five) ≡ pos 95 ∷ pos 105 ∷ pos 95 ∷ pos 105 ∷ pos 0 ∷ pos 98 ∷ pos 4908 ∷ [])
-    × (edited (Scale 1 1) stale ≡ survey_of (point 7 8 (pos 9) ∷ []))
-    × (edited (Scale 9 1) stale ≡ stale)
-    × (ends_after (Scale 2 2 ∷ []) ≡ pos 10 ∷ pos 30 ∷ pos 20 ∷ pos 60 ∷ negsuc 3 ∷ pos 5 ∷ pos 4982 ∷ [])
-unfolding refusal present edited extent_of file_of last_scales tabulate
-scale_calls = (refl, refl, refl, refl, refl, refl, refl, refl, refl, refl, refl, refl, refl, refl)
-
 -- a grid at (x, y) with a step and a count for both axes
 abbrev square : ℕ → ℕ → ℕ → ℕ → Grid
 square x y step n = record { x0 = x; y0 = y; step_x = step; step_y = step; columns = n; rows = n }
@@ -372,7 +304,7 @@ strip m n = record { x0 = 5; y0 = 5; step_x = 2; step_y = 2; columns = m; rows =
 
 -- every call on the survey, accepted and, but for one that only asks and a clear, refused
 abbrev edits : List RowCall
-edits = map OnSurvey (Add 6 6 (pos 9) ∷ Add 6 6 (pos 8) ∷ Change 5 5 (pos 9) ∷ Change 4 4 (pos 9) ∷ Drop 7 7 ∷ Drop 7 7 ∷ Load (file_of (point 5 5 (pos 8) ∷ [])) ∷ Load [] ∷ Scale 8 1 ∷ Scale 9 1 ∷ Ask ∷ Clear ∷ [])
+edits = map OnSurvey (Add 6 6 (pos 9) ∷ Add 6 6 (pos 8) ∷ Change 5 5 (pos 9) ∷ Change 4 4 (pos 9) ∷ Drop 7 7 ∷ Drop 7 7 ∷ Load (file_of (point 5 5 (pos 8) ∷ [])) ∷ Load [] ∷ Ask ∷ Clear ∷ [])
 
 -- 7 before 6, and no other grid refused; 17 before 8, with no grid begun and after the last row, and 8 by the columns; a row at the front of the lent cells, and refused, 8 or 17, none;
 -- over what was present at the begin, whatever comes between; refused, a row is still the next one, and a begin keeps the grid, finished or not; accepted, it starts at row 0;
@@ -405,13 +337,6 @@ pub rows_between : NoneBegins corners.contents (Begin (square 5 5 0 2) ∷ lends
     × (rows_asked 2 (lends 1 ∷ lends 2 ∷ OnSurvey Clear ∷ Begin (square 5 5 2 2) ∷ lends 3 ∷ []) ≡ 2)
 unfolding after file_of
 rows_between = ((λ h. absurd (omega arith), (λ h. absurd (omega arith), tt)), λ h. h.0 refl, refl)
-
--- a grid of one cell at (0, 0) keeps the scales of its begin, and the next one has those set in between
-pub rows-scaled :
-    rows_given (OnSurvey (Scale 3 1) ∷ Begin (square 0 0 1 1) ∷ OnSurvey (Scale 1 3) ∷ lends 1 ∷ Begin (square 0 0 1 1) ∷ lends 1 ∷ []) (session (contents_of pair) NoGrid)
-    ≡ record { index = 0; cells = pos 2870 ∷ [] } ∷ record { index = 0; cells = pos 13381 ∷ [] } ∷ []
-unfolding rows_given extent_of
-rows-scaled = refl
 
 -- document 01's whole case of the grid program
 abbrev whole_input : List ℕ

@@ -1,4 +1,4 @@
--- Two surveys at the same locations, with the same scales, and what lookups in them have in common: document 02, §5 and §7.
+-- Two surveys at the same locations, and what lookups in them have in common: document 02, §5.
 use Rattle.std.specs.Prelude.{◌≡◌, ◌⊎◌, ℕ, false, map}
 use Rattle.model.specs.Lists.{Beside}
 use Rattle.model.specs.Point.{Location, Point, Contents, State}
@@ -11,10 +11,9 @@ use Rattle.model.specs.Computed.{weight_f}
 use Rattle.model.specs.Answer.{Neighbour, answer, neighbours}
 use Rattle.model.specs.Calls.{taken}
 
--- they stand at the same locations, document 02's places, and take distances alike
+-- they stand at the same locations, document 02's places
 pub record Alike (q r : Contents) : Type 0 where
   pub locations : locations q.points ≡ locations r.points
-  pub metric : q.metric ≡ r.metric
 
 -- the point a of s has the value of b, or no point at its location is chosen at p
 abbrev pub Spares : State → Location → Point → Point → Type 0

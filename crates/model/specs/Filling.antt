@@ -5,7 +5,7 @@ use Rattle.model.specs.Point.{State}
 use Rattle.model.specs.Refusals.{enough, afterwards}
 use Rattle.model.specs.Grid.{Grid, grid_check, row}
 
--- the grid being filled: none, or what a plain lookup reads, its scales too, as it stood at the begin, the grid, and the index of its next row
+-- the grid being filled: none, or what a plain lookup reads, as it stood at the begin, the grid, and the index of its next row
 pub data Filling : Type 0 where
   NoGrid : Filling
   Begun : State → Grid → ℕ → Filling

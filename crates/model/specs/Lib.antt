@@ -18,7 +18,6 @@ pub mod Lent
 pub mod Bytes
 pub mod SurveyFile
 pub mod Calls
-pub mod Scales
 pub mod Invariant
 pub mod FarOff
 pub mod Grid

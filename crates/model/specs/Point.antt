@@ -1,5 +1,5 @@
 -- Points, locations and the domain that they lie in: document 01, "The sheet".
-use Rattle.std.specs.Prelude.{ℕ, Bool, ◌&&◌, ◌||◌, List, leb, ltb, eqb, ℤ, pos, negsuc}
+use Rattle.std.specs.Prelude.{ℕ, Bool, ◌&&◌, ◌||◌, List, ltb, eqb, ℤ, pos, negsuc}
 use Rattle.std.specs.Int.Signed.{le_z}
 
 -- where a lookup is made: document 01's place, P
@@ -23,15 +23,9 @@ point x y z = record { x = x; y = y; z = z }
 abbrev pub no_point : Point
 no_point = point 0 0 (pos 0)
 
--- how distances are taken: how many times a difference in x, and one in y, counts; document 02's stretch factors p and q
-pub record Metric : Type 0 where
-  pub scale_x : ℕ
-  pub scale_y : ℕ
-
--- what calls determine, document 01's what stands: the points, and how distances are taken
+-- what calls determine, document 01's what stands: the points
 pub record Contents : Type 0 where
   pub points : List Point
-  pub metric : Metric
 
 -- what is kept of the points: the least and the greatest x, y and value, and the initial radius R0
 pub record Extent : Type 0 where
@@ -48,24 +42,13 @@ pub record State : Type 0 where
   pub contents : Contents
   pub extent : Extent
 
--- the scales m of x and n of y
-abbrev pub scales_of : ℕ → ℕ → Metric
-scales_of m n = record { scale_x = m; scale_y = n }
-
--- both 1: distances as document 01 has them
-abbrev pub unscaled : Metric
-unscaled = scales_of 1 1
-
 -- the contents of a list of points, with nothing else set
 abbrev pub contents_of : List Point → Contents
-contents_of l = record { points = l; metric = unscaled }
+contents_of l = record { points = l }
 
--- contents with other points, or other scales, in place of their own
+-- contents with other points in place of their own
 abbrev pub with_points : Contents → List Point → Contents
-with_points q l = record { points = l; metric = q.metric }
-
-abbrev pub with_scales : Contents → ℕ → ℕ → Contents
-with_scales q m n = record { points = q.points; metric = scales_of m n }
+with_points q l = record { points = l }
 
 -- the domain, document 01's sheet: both coordinates from 0 to 4,095
 abbrev pub in_domain : ℕ → ℕ → Bool
@@ -74,10 +57,6 @@ in_domain x y = ltb x 4096 && ltb y 4096
 -- the value range, document 01's register: -128 to 127
 abbrev pub in_range : ℤ → Bool
 in_range z = le_z (negsuc 127) z && le_z z (pos 127)
-
--- a scale is from 1 to 8
-abbrev pub is_scale : ℕ → Bool
-is_scale n = leb 1 n && leb n 8
 
 -- the point a is at the location (x, y)
 abbrev pub at : ℕ → ℕ → Point → Bool

@@ -1,4 +1,4 @@
--- Twice the area A that the points enclose, and the initial radius R0: document 01, "Search radius", with document 02's §4 and §7.
+-- Twice the area A that the points enclose, and the initial radius R0: document 01, "Search radius", with document 02's §4.
 use Rattle.std.specs.Prelude.{ℕ, ◌*◌, ◌/◌, ◌≤◌, List, map, length}
 use Rattle.model.specs.Point.{Location, Point, Contents, location}
 use Rattle.model.specs.Distance.{root}
@@ -8,10 +8,10 @@ use Rattle.model.specs.Polygon.{enclosed}
 abbrev pub locations : List Point → List Location
 locations l = map (λ (a : Point). location a.x a.y) l
 
--- 2A, which is whole where A is a half, p × q times
+-- 2A, which is whole where A is a half
 unfoldable pub twice_area : Contents → ℕ
 unfolding enclosed
-twice_area q = q.metric.scale_x * q.metric.scale_y * enclosed (locations q.points)
+twice_area q = enclosed (locations q.points)
 
 -- R0 of twice an area and a number of points, with 355/113 for π
 unfoldable pub radius_of : ℕ → ℕ → ℕ

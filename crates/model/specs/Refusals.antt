@@ -1,6 +1,6 @@
--- Why calls are refused, by number, and the order in which the numbers are tried: document 01, "Refused", and document 02's 18; and of which a lookup is.
-use Rattle.std.specs.Prelude.{ℕ, cond, ◌&&◌, ltb, eqb, ℤ, length}
-use Rattle.model.specs.Point.{State, in_domain, in_range, is_scale}
+-- Why calls are refused, by number, and the order in which the numbers are tried: document 01, "Refused"; and of which a lookup is.
+use Rattle.std.specs.Prelude.{ℕ, cond, ltb, eqb, ℤ, length}
+use Rattle.model.specs.Point.{State, in_domain, in_range}
 
 -- 1, off the domain, or else whatever follows
 abbrev pub on_domain : ℕ → ℕ → ℕ → ℕ
@@ -17,10 +17,6 @@ non_empty s n = cond (eqb (length s.contents.points) 0) 6 n
 -- 8: fewer are lent than needed
 abbrev pub enough : ℕ → ℕ → ℕ
 enough lent needed = cond (ltb lent needed) 8 0
-
--- 18: one of two scales is outside 1 to 8
-abbrev pub scales_refusal : ℕ → ℕ → ℕ
-scales_refusal m n = cond (is_scale m && is_scale n) 0 18
 
 -- a lookup at (x, y), and one that is lent n neighbour records (document 01's listing): the first refusal that applies, 0 where it is accepted
 unfoldable pub lookup_refusal : ℕ → ℕ → State → ℕ

@@ -13,7 +13,7 @@ use Rattle.model.specs.Distance.{distance}
 use Rattle.model.specs.Choice.{Choice, ordered}
 use Rattle.laws.proofs.NearestLaws.{length_ordered}
 use Rattle.metric.specs.declared.Viewpoint.{Viewpoint}
-use Rattle.metric.specs.From.{Sees}
+use Rattle.metric.specs.From.{Sees, Proper}
 use Rattle.metric.proofs.FromLaws.{offset_x_seen, offset_y_seen}
 use Rattle.neighbours.specs.declared.Neighbour.{Neighbour}
 use Rattle.candidates.specs.declared.Candidates.{Candidates}
@@ -24,13 +24,13 @@ use Rattle.neighbours.specs.Selects.{HoldsEnough, Selects, seen_from}
 use Rattle.laws.proofs.ListLaws.{all_take}
 use Rattle.laws.proofs.MapLaws.{take_map}
 
-module _ (s : State) (p : Location) (v : Viewpoint) (sees : Sees s p v) where
+module _ (s : State) (p : Location) (v : Viewpoint) (sees : Sees s p v) (proper : Proper v) where
   abbrev Below : Point → Type 0
   Below a = (a.x < 4096) × (a.y < 4096)
 
   seen_one : (a : Point) → Below a → seen_from v (candidate_at s p a) ≡ neighbour_at s p a
   unfolding seen_from candidate_at neighbour_at distance
-  seen_one a h = rw (offset_x_seen s p v sees a h.0 h.1, offset_y_seen s p v sees a h.0 h.1)
+  seen_one a h = rw (offset_x_seen s p v sees a proper h.0 h.1, offset_y_seen s p v sees a proper h.0 h.1)
 
   seen_all : (l : List Point) → All Below l → map (seen_from v) (map (candidate_at s p) l) ≡ map (neighbour_at s p) l
   seen_all [] h = refl

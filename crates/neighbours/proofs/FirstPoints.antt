@@ -12,7 +12,6 @@ use borrow.Author.Tests.{eq-eqb, ne_eqb}
 use Rattle.model.specs.Point.{Location, Point, State, at, no_point}
 use Rattle.model.specs.Distance.{squared, distance_of, distance}
 use Rattle.model.specs.Choice.{ordered, within, distance_at, choice_apart, starts_at, coincident, choice}
-use Rattle.model.specs.Invariant.{ScalesInRange}
 use Rattle.laws.proofs.RootLaws.{distance_pos}
 use Rattle.laws.proofs.ChoiceLaws.{squared_zero, squared_apart}
 use Rattle.laws.proofs.NearestLaws.{length_ordered, within_le, choice_coincident, choice_otherwise, rule_few, rule_four, rule_some, rule_ten}
@@ -24,18 +23,18 @@ use Rattle.neighbours.specs.Selects.{HoldsEnough, Selects}
 use Rattle.laws.proofs.MapLaws.{get_d_map}
 
 -- D is 0 of a point at p alone, as tests
-zero_test : (s : State) → ScalesInRange s.contents.metric → (p : Location) (a : Point) → eqb (distance s p a) 0 ≡ at p.x p.y a
+zero_test : (s : State) (p : Location) (a : Point) → eqb (distance s p a) 0 ≡ at p.x p.y a
 unfolding distance
-zero_test s scaled p a = go (at p.x p.y a) refl
+zero_test s p a = go (at p.x p.y a) refl
   where
     go : (t : Bool) → at p.x p.y a ≡ t → eqb (distance s p a) 0 ≡ t
-    go true e = eq-eqb (distance s p a) 0 (ap distance_of ((squared_zero s scaled p a).1 e))
-    go false e = let h : 0 < distance s p a = distance_pos (squared s p a) (squared_apart s scaled p a e) in ne_eqb (distance s p a) 0 (λ z. omega arith)
+    go true e = eq-eqb (distance s p a) 0 (ap distance_of ((squared_zero s p a).1 e))
+    go false e = let h : 0 < distance s p a = distance_pos (squared s p a) (squared_apart s p a e) in ne_eqb (distance s p a) 0 (λ z. omega arith)
 
-starts_first : (s : State) → ScalesInRange s.contents.metric → (p : Location) (l : List Point) → 0 < length l → eqb (distance s p (get_or l 0 no_point)) 0 ≡ starts_at p l
+starts_first : (s : State) (p : Location) (l : List Point) → 0 < length l → eqb (distance s p (get_or l 0 no_point)) 0 ≡ starts_at p l
 unfolding starts_at
-starts_first s scaled p [] h = absurd (not-suc-le-zero h)
-starts_first s scaled p (a ∷ l) h = zero_test s scaled p a
+starts_first s p [] h = absurd (not-suc-le-zero h)
+starts_first s p (a ∷ l) h = zero_test s p a
 
 starts_none : (p : Location) (l : List Point) → length l ≡ 0 → false ≡ starts_at p l
 unfolding starts_at
@@ -60,7 +59,7 @@ module _ (s : State) (p : Location) (k : ℕ) (b : Candidates) (h : HoldsEnough 
 
   pub at_first : (b.count ≡ 0 → ⊥) → eqb (get_or b.items 0 no_candidate).distance 0 ≡ coincident s p
   unfolding coincident distance_at
-  at_first ne = rw (distance_at_lem 0 (omega arith)) (starts_first s h.scaled p (ordered s p) (omega (arith, h.present, length_ordered s p)))
+  at_first ne = rw (distance_at_lem 0 (omega arith)) (starts_first s p (ordered s p) (omega (arith, h.present, length_ordered s p)))
 
   some : coincident s p ≡ true → 0 < length s.contents.points
   unfolding coincident

@@ -12,7 +12,6 @@ use Rattle.model.specs.Lists.{count, All}
 use Rattle.model.specs.Point.{Location, Point, State, in_range}
 use Rattle.model.specs.Distance.{squared, distance_of, distance}
 use Rattle.model.specs.Choice.{ordered, within}
-use Rattle.model.specs.Invariant.{ScalesInRange}
 use Rattle.laws.proofs.ListLaws.{all_of_map, all_take}
 use Rattle.laws.proofs.ChosenLaws.{ordered_all}
 use Rattle.laws.proofs.MapLaws.{count_map, count_same}
@@ -41,15 +40,14 @@ module _ (s : State) (p : Location) (squares : List ℕ) (held : HoldsSquares s 
       ∙ count_map (squared s p) (λ d. leb (distance_of d) r) s.contents.points
       ∙ rw er (sym (order_count s p (λ (a : Point). leb (distance s p a) s.extent.radius)))
 
-  pub gathered : ScalesInRange s.contents.metric → All (λ (a : Point). (a.x < 4096) × (a.y < 4096)) s.contents.points → (k r reach limit : ℕ) (b : Candidates) → Words squares → k ≡ count_within reach squares → r ≡ s.extent.radius
+  pub gathered : All (λ (a : Point). (a.x < 4096) × (a.y < 4096)) s.contents.points → (k r reach limit : ℕ) (b : Candidates) → Words squares → k ≡ count_within reach squares → r ≡ s.extent.radius
       → ((d : ℕ) → d < 4294967296 → leb d reach ≡ leb (distance_of d) r) → needed k (length squares) ≤ count_within limit squares
       → HoldsFirst s p limit b → InRange (list_of b) → HoldsEnough s p k b
   unfolding candidate_at
-  gathered scaled below k r reach limit b words ek er test enough first values =
+  gathered below k r reach limit b words ek er test enough first values =
       let found : count_within limit squares ≡ count (λ (a : Point). leb (squared s p a) limit) s.contents.points =
       ap (count_within limit) held ∙ count_map (squared s p) (λ d. leb d limit) s.contents.points in
       record {
-        scaled = scaled;
         within = within_is k r reach words ek er test;
         size = omega (arith, first.count);
         present = omega (arith, first.count, count_le (λ (a : Point). leb (squared s p a) limit) s.contents.points);

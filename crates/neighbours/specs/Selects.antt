@@ -3,7 +3,6 @@ use Rattle.std.specs.Prelude.{◌≡◌, ℕ, ◌≤◌, ◌<◌, true, map, len
 use Rattle.model.specs.Lists.{All}
 use Rattle.model.specs.Point.{Location, Point, State, in_range}
 use Rattle.model.specs.Choice.{Choice, ordered, within}
-use Rattle.model.specs.Invariant.{ScalesInRange}
 use Rattle.metric.specs.declared.Viewpoint.{Viewpoint}
 use Rattle.metric.specs.From.{offset_xFrom, offset_yFrom}
 use Rattle.squares.specs.Squares.{needed}
@@ -13,9 +12,8 @@ use Rattle.candidates.specs.First.{candidate_at, list_of}
 use Rattle.neighbours.specs.declared.Neighbour.{Neighbour}
 use Rattle.neighbours.specs.declared.Selection.{Selection}
 
--- b holds the first points of s in order, seen from p, as many as the choice goes by where k are within R0; the scales of s are from 1 to 8, so that D is 0 at p alone
+-- b holds the first points of s in order, seen from p, as many as the choice goes by where k are within R0
 pub record HoldsEnough (s : State) (p : Location) (k : ℕ) (b : Candidates) : Type 0 where
-  pub scaled : ScalesInRange s.contents.metric
   pub within : k ≡ within s p
   pub size : b.count ≤ 11
   pub present : b.count ≤ length s.contents.points

@@ -69,7 +69,6 @@ pub(crate) fn selected(b: Candidates, m: usize, k: u32, r0: u32) -> Selection
 }
 
 fn seen_from(v: Viewpoint, e: Candidate) -> Neighbour
-    requires { Proper v }
     ensures { result ≡ seen_from v e }
 {
     Neighbour {
@@ -84,7 +83,7 @@ fn seen_from(v: Viewpoint, e: Candidate) -> Neighbour
 
 // The first k of the nearest, with their offsets.
 fn neighbours(v: Viewpoint, items: [Candidate; 11], k: usize) -> [Neighbour; 10]
-    requires { Proper v × (k ≤ 10) }
+    requires { k ≤ 10 }
     ensures { take k result ≡ map (seen_from v) (take k items) }
 {
     let e = Neighbour {
@@ -107,8 +106,8 @@ fn neighbours(v: Viewpoint, items: [Candidate; 11], k: usize) -> [Neighbour; 10]
 
 // The chosen ones of the nearest, of m points present.
 pub(crate) fn filled(v: Viewpoint, b: Candidates, t: Selection, m: usize) -> Chosen
-    requires { Proper v × (t.count ≤ 10) }
-    ensures { (s : State) (p : Location) (k : ℕ) (c : Choice) → Sees s p v → HoldsEnough s p k b → m ≡ length s.contents.points → Selects s p c b t → Holds s p c result }
+    requires { t.count ≤ 10 }
+    ensures { (s : State) (p : Location) (k : ℕ) (c : Choice) → Sees s p v → Proper v → HoldsEnough s p k b → m ≡ length s.contents.points → Selects s p c b t → Holds s p c result }
 {
     let items = b.items;
     let k = t.count;

@@ -4,7 +4,6 @@ mod choice;
 ghost use Rattle.std.specs.Prelude.{◌≡◌, ℕ, ◌≤◌, length};
 ghost use Rattle.model.specs.Point.{Location, State};
 ghost use Rattle.model.specs.Choice.{choice as choice_of, choice_apart};
-ghost use Rattle.model.specs.Invariant.{ScalesInRange};
 ghost use Rattle.point_arrays.specs.PointArrays.{HoldsPoints};
 ghost use Rattle.metric.specs.From.{Sees, Proper};
 ghost use Rattle.squares.specs.Squares.{HoldsSquares};
@@ -57,8 +56,8 @@ fn among<'a>(
     r0: u32,
 ) -> Nearest
     requires { length squares.now ≤ 256 }
-    ensures { (s : State) (p : Location) (n : ℕ) → HoldsPoints s xs.now ys.now zs.now n → ScalesInRange s.contents.metric
-        → HoldsSquares s p squares.now → r0 ≡ s.extent.radius → HoldsEnough s p result.within result.first }
+    ensures { (s : State) (p : Location) (n : ℕ) → HoldsPoints s xs.now ys.now zs.now n → HoldsSquares s p squares.now
+        → r0 ≡ s.extent.radius → HoldsEnough s p result.within result.first }
 {
     let reach = root::reach_of(r0);
     let within = squares::count_within(squares, reach);

@@ -1,7 +1,7 @@
-// Why a call on the points that arrays hold is refused: document 01, "The bench", 8 of a lookup lent too few neighbour records, and document 02's 18. The first number that applies, or 0.
+// Why a call on the points that arrays hold is refused: document 01, "The bench", and 8 of a lookup lent too few neighbour records. The first number that applies, or 0.
 ghost use Rattle.std.specs.Prelude.{◌≡◌, List, min, ℤ, length};
-ghost use Rattle.model.specs.Point.{State, in_domain, in_range, is_scale};
-ghost use Rattle.model.specs.Refusals.{on_domain, within_range, lookup_refusal, neighbours_refusal, scales_refusal};
+ghost use Rattle.model.specs.Point.{State, in_domain, in_range};
+ghost use Rattle.model.specs.Refusals.{on_domain, within_range, lookup_refusal, neighbours_refusal};
 ghost use Rattle.model.specs.Calls.{Add, Change, Drop, taken, refusal};
 ghost use Rattle.point_arrays.specs.PointArrays.{points_in, HoldsPoints};
 
@@ -106,28 +106,6 @@ pub fn of_lookup_neighbours(n: usize, x: u32, y: u32, lent: usize) -> u8
     }
     if lent < 10 {
         return 8;
-    }
-    0
-}
-
-fn is_scale(n: u32) -> bool
-    ensures { result ≡ is_scale n }
-{
-    if n < 1 {
-        return false;
-    }
-    n <= 8
-}
-
-// Of scales for x and for y, whatever the points are.
-pub fn of_scales(x: u32, y: u32) -> u8
-    ensures { result ≡ scales_refusal x y }
-{
-    if !is_scale(x) {
-        return 18;
-    }
-    if !is_scale(y) {
-        return 18;
     }
     0
 }

@@ -1,4 +1,4 @@
--- Demand 3, §1, §4 and §7 of lists that also begin grids and fill rows: of the survey they are lists of calls in which begins and rows only ask.
+-- Demand 3, §1 and §4 of lists that also begin grids and fill rows: of the survey they are lists of calls in which begins and rows only ask.
 use Prim.Native.Nat.{ℕ}
 use mathlib.Core.List.{List, [], ◌∷◌, ◌++◌, map, append-nil, append_assoc}
 use lib.ListN.{length, take}

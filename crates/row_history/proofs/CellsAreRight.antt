@@ -4,7 +4,7 @@ use mathlib.Core.Bool.{true}
 use Rattle.model.specs.Lists.{All}
 use Rattle.model.specs.Point.{Point, Contents, in_range}
 use Rattle.model.specs.Extent.{settled}
-use Rattle.model.specs.Invariant.{Sound, Invariant, ScalesInRange}
+use Rattle.model.specs.Invariant.{Sound, Invariant}
 use Rattle.model.specs.Grid.{Grid, cell_location}
 use Rattle.model.specs.Filling.{begin_refusal}
 use Rattle.laws.proofs.ListLaws.{all_imp}
@@ -16,8 +16,8 @@ use Rattle.laws.proofs.GridLaws.{cell_accepted, grid_fits}
 use Rattle.error_bound.proofs.AnswerRight.{answer_right}
 use Rattle.grid_cells.specs.CellsRight.{CellsRight}
 
-pub cells_right : (q : Contents) → ScalesInRange q.metric → Invariant q.points → (g : Grid) → begin_refusal g (settled q) ≡ 0 → CellsRight (settled q) g
-cells_right q scaled v g h r row c column =
+pub cells_right : (q : Contents) → Invariant q.points → (g : Grid) → begin_refusal g (settled q) ≡ 0 → CellsRight (settled q) g
+cells_right q v g h r row c column =
     let s = settled q in
     let p = cell_location g c r in
     let f = grid_fits g s 0 0 h in
@@ -26,9 +26,8 @@ cells_right q scaled v g h r row c column =
     let values : All (λ (b : Point). in_range b.z ≡ true) q.points = all_imp Sound (λ (b : Point). in_range b.z ≡ true) (λ b k. k.value) q.points v.sound in
     answer_right s p record {
       domain = domain_bounds p.x p.y a.0;
-      scaled = scaled;
       some = f.1;
       inside = inside;
-      kept = kept_most q scaled inside;
+      kept = kept_most q inside;
       values = chosen_all s p (λ (b : Point). in_range b.z ≡ true) values;
     }

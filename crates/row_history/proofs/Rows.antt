@@ -18,7 +18,6 @@ use Rattle.model.specs.Filling.{Begun, GivenRow, begin_refusal, after_begin, Fil
 use Rattle.model.specs.RowCalls.{RowCall, Begin, Session, session, fresh_session, after_row_call, given_by, session_after, rows_given, survey_call, NoneBegins, rows_asked, FirstRows}
 use Rattle.laws.proofs.GridLaws.{length_cells}
 use Rattle.laws.proofs.HistoryInvariant.{history_invariant}
-use Rattle.laws.proofs.ScaleLaws.{history_scaled}
 use Rattle.laws.proofs.FillingLaws.{begin_accepted, contents_present, rows_first, no_rows}
 use Rattle.survey.specs.declared.Survey.{Survey}
 use Rattle.grid_rules.specs.declared.Grid.{Grid}
@@ -71,7 +70,7 @@ module _ {cs ds : List RowCall} {g : Model-as-Grid} {s₀ s u : Survey} {f₀ f 
 
   -- the rows that were written are the first of the grid made in one go over what was present at the begin
   pub rows_claimed : ClaimRows q g ds rows
-  rows_claimed = record { first_rows = first; right = λ r l. cells_right q (history_scaled (map survey_call cs)) (history_invariant (map survey_call cs)) g accepted r (omega (arith, few)) }
+  rows_claimed = record { first_rows = first; right = λ r l. cells_right q (history_invariant (map survey_call cs)) g accepted r (omega (arith, few)) }
 
   -- and the front of what `grid::cells` writes in one go with the survey of the begin
   pub rows_at_once : (κs : Lfts 1) (b : Grid) (out left : Bor (List ℤ)) (n : ℕ) → grid_of b ≡ g → Cells-of.Post κs (s, (b, (out, tt))) (Cells n) (s, (b, (left, tt)))

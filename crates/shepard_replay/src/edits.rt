@@ -1,4 +1,4 @@
-// Add, change, drop, clear and scales.
+// Add, change, drop and clear.
 use crate::step::Step;
 use crate::{journal, replies, step};
 use survey::{Reply, Survey};
@@ -38,13 +38,4 @@ pub fn drop(s: Survey) -> Step {
 
 pub fn clear(s: Survey) -> Step {
     replied(survey::clear(s))
-}
-
-// The scales for x and for y, four bytes each.
-pub fn set_scales(s: Survey) -> Step {
-    let a = journal::read(8);
-    if !a.whole {
-        return step::bad_journal(s);
-    }
-    replied(survey::set_scales(s, a.long(0), a.long(4)))
 }

@@ -20,7 +20,6 @@ fn run_call(s: Survey, call: u8) -> Step {
         b'c' => edits::change(s),
         b'd' => edits::drop(s),
         b'k' => edits::clear(s),
-        b's' => edits::set_scales(s),
         b'l' => files::load(s),
         b'w' => files::write(s),
         b'q' => lookups::lookup(s),

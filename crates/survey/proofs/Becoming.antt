@@ -2,81 +2,59 @@
 use mathlib.Core.Path.{◌≡◌, refl, ap}
 use Prim.Native.Nat.{ℕ, ◌+◌, ◌-◌, ◌^◌, ◌≤◌, ◌<◌, min}
 use native.Mathlib.Omega.{arith}
-use mathlib.Core.List.{List}
 use lib.IntN.{ℤ}
 use lib.ListN.{length, take, set}
-use Rattle.model.specs.Point.{Point, point, unscaled, contents_of, with_points, with_scales}
-use Rattle.model.specs.Extent.{extent_of, survey_of}
-use Rattle.model.specs.Invariant.{ScalesInRange}
+use Rattle.model.specs.Point.{point, contents_of}
+use Rattle.model.specs.Extent.{extent_of}
 use Rattle.laws.proofs.Insertions.{put_in, cut_out}
 use Rattle.point_arrays.specs.PointArrays.{HoldsPoints}
 use Rattle.point_arrays.proofs.ReadLaws.{length_points}
 use Rattle.point_arrays.proofs.EditLaws.{Sized, points_put, points_cut, points_over}
-use Rattle.metric.specs.declared.Metric.{Metric}
-use Rattle.metric.specs.Read.{as_metric}
-use Rattle.metric.proofs.FromLaws.{read_same, unscaled_read}
 use Rattle.extent.specs.declared.Extent.{Extent}
-use Rattle.extent.specs.Kept.{as_extent, contents_read}
+use Rattle.extent.specs.Kept.{as_extent}
 use Rattle.survey.specs.declared.Survey.{Survey}
-use Rattle.survey.specs.StateOf.{contents_in, state_of, PlainContents, Plain, Becomes, Settles}
+use Rattle.survey.specs.StateOf.{contents_in, state_of, Plain, Becomes, Settles}
 
 -- the arrays hold the points of the state
 pub holds : (s : Survey) → HoldsPoints (state_of s) s.x s.y s.z s.count
-unfolding contents_in contents_read
+unfolding contents_in
 holds s = refl
 
 pub points_held : (s : Survey) → length (contents_in s).points ≡ min s.count 256
-unfolding contents_in contents_read
+unfolding contents_in
 points_held s = length_points s.x s.y s.z s.count
 
 module _ (s t : Survey) (e : Sized s.x s.y s.z) (i : ℕ) where
   pub becomes_put : (x y : ℕ) (z : ℤ) → i ≤ length (contents_in s).points → length (contents_in s).points < 256 → x < 4096 → y < 4096
-      → t.x ≡ take 256 (put_in i x s.x) → t.y ≡ take 256 (put_in i y s.y) → t.z ≡ take 256 (put_in i z s.z) → t.count ≡ s.count + 1 → t.metric ≡ s.metric
+      → t.x ≡ take 256 (put_in i x s.x) → t.y ≡ take 256 (put_in i y s.y) → t.z ≡ take 256 (put_in i z s.z) → t.count ≡ s.count + 1
       → Becomes s (put_in i (point x y z) (contents_in s).points) t
-  unfolding contents_in contents_read
-  becomes_put x y z h room hx hy ex ey ez ec em =
+  unfolding contents_in
+  becomes_put x y z h room hx hy ex ey ez ec =
       let k = points_held s in
       let p = points_put s.x s.y s.z s.count e i x y z t.x t.y t.z (omega arith) (omega arith) hx hy ex ey ez in
-      record { contents = rw (ec, em) (ap (with_points (contents_in s)) p.0); plain = λ k. rw (ec, em) (p.1 k.0, k.1) }
+      record { contents = rw ec (ap contents_of p.0); plain = rw ec p.1 }
 
   pub becomes_cut : i < length (contents_in s).points
       → take 255 t.x ≡ take 255 (cut_out i s.x) → take 255 t.y ≡ take 255 (cut_out i s.y) → take 255 t.z ≡ take 255 (cut_out i s.z)
-      → t.count ≡ min s.count 256 - 1 → t.metric ≡ s.metric → Becomes s (cut_out i (contents_in s).points) t
-  unfolding contents_in contents_read
-  becomes_cut h ex ey ez ec em =
+      → t.count ≡ min s.count 256 - 1 → Becomes s (cut_out i (contents_in s).points) t
+  unfolding contents_in
+  becomes_cut h ex ey ez ec =
       let k = points_held s in
       let p = points_cut s.x s.y s.z s.count e i t.x t.y t.z (omega arith) ex ey ez in
-      record { contents = rw (ec, em) (ap (with_points (contents_in s)) p.0); plain = λ k. rw (ec, em) (p.1 k.0, k.1) }
+      record { contents = rw ec (ap contents_of p.0); plain = rw ec p.1 }
 
   pub becomes_over : (x y : ℕ) (z : ℤ) → i < length (contents_in s).points → x < 4096 → y < 4096
-      → t.x ≡ set s.x i x → t.y ≡ set s.y i y → t.z ≡ set s.z i z → t.count ≡ s.count → t.metric ≡ s.metric
+      → t.x ≡ set s.x i x → t.y ≡ set s.y i y → t.z ≡ set s.z i z → t.count ≡ s.count
       → Becomes s (set (contents_in s).points i (point x y z)) t
-  unfolding contents_in contents_read
-  becomes_over x y z h hx hy ex ey ez ec em =
+  unfolding contents_in
+  becomes_over x y z h hx hy ex ey ez ec =
       let k = points_held s in
       let p = points_over s.x s.y s.z s.count e i x y z (omega arith) hx hy in
-      record { contents = rw (ex, ey, ez, ec, em) (ap (with_points (contents_in s)) p.0); plain = λ k. rw (ex, ey, ez, ec, em) (p.1 k.0, k.1) }
-
--- scales put in place of those of s
-module _ (s : Survey) (m : Metric) (scaled : ScalesInRange (as_metric m)) where
-  abbrev scaled_to : Survey
-  scaled_to = record { x = s.x; y = s.y; z = s.z; count = s.count; metric = m; extent = s.extent }
-
-  pub scaled_to_lem : contents_in scaled_to ≡ with_scales (contents_in s) m.scale_x m.scale_y
-  unfolding contents_in contents_read
-  scaled_to_lem = rw (read_same m scaled)
-
-  pub scaled_plain : PlainContents s → PlainContents scaled_to
-  scaled_plain k = (k.0, read_same m scaled)
-
--- of points l that the arrays hold, and both scales 1
-pub unscaled_holds : (s : Survey) (l : List Point) → as_metric s.metric ≡ unscaled → HoldsPoints (survey_of l) s.x s.y s.z s.count → contents_in s ≡ contents_of l
-unfolding contents_in contents_read
-unscaled_holds s l em h = rw (unscaled_read s.metric em, em, ← h)
+      record { contents = rw (ex, ey, ez, ec) (ap contents_of p.0); plain = rw (ex, ey, ez, ec) p.1 }
 
 -- what is kept, worked out anew
 pub settles : (s : Survey) (e : Extent) → as_extent e ≡ extent_of (contents_in s) → e.radius ≤ 2 ^ 24
-    → Settles s (record { x = s.x; y = s.y; z = s.z; count = s.count; metric = s.metric; extent = e })
+    → Settles s (record { x = s.x; y = s.y; z = s.z; count = s.count; extent = e })
 unfolding contents_in Plain
 settles s e h k =
     let same : min e.radius (2 ^ 24) ≡ e.radius = omega arith in

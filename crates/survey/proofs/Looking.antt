@@ -9,10 +9,6 @@ use Rattle.model.specs.Refusals.{lookup_refusal, neighbours_refusal}
 use Rattle.model.specs.Lent.{neighbours_into}
 use Rattle.laws.proofs.RecordLaws.{domain_bounds}
 use Rattle.laws.proofs.CallLaws.{lookup_accepted, neighbours_accepted}
-use Rattle.metric.specs.declared.Metric.{Metric}
-use Rattle.metric.specs.Read.{as_metric, metric_read}
-use Rattle.metric.proofs.FromLaws.{read_scaled}
-use Rattle.extent.specs.Kept.{contents_read}
 use Rattle.neighbour_records.specs.declared.RecordList.{RecordList}
 use Rattle.neighbour_records.specs.Records.{Listed}
 use Rattle.lookup.specs.declared.Answered.{Answered}
@@ -21,22 +17,21 @@ use Rattle.lookup.specs.AnswersAs.{AnswersAs}
 use Rattle.survey.specs.declared.Survey.{Survey}
 use Rattle.survey.specs.declared.Answer.{Answer}
 use Rattle.survey.specs.declared.Answer.TheVariants.{Found, Refused}
-use Rattle.survey.specs.StateOf.{contents_in, state_of}
+use Rattle.survey.specs.StateOf.{state_of}
 use Rattle.survey.specs.LookedUp.{found, looked_up, looked_up_lent, Rounded, Decides}
 use Rattle.survey.proofs.Becoming.{holds, points_held}
 
 -- what an accepted lookup hands to the arithmetic over arrays
-pub handed : (s : Survey) (x y r : ℕ) (m : Metric) → lookup_refusal x y (state_of s) ≡ 0 → as_metric m ≡ metric_read s.metric → r ≡ min s.extent.radius (2 ^ 24)
-    → Handed (state_of s) (location x y) s.x s.y s.z s.count (record { x = x; y = y; metric = m }) r
-unfolding contents_in contents_read
-handed s x y r m e k h =
+pub handed : (s : Survey) (x y r : ℕ) → lookup_refusal x y (state_of s) ≡ 0 → r ≡ min s.extent.radius (2 ^ 24)
+    → Handed (state_of s) (location x y) s.x s.y s.z s.count (record { x = x; y = y }) r
+handed s x y r e h =
     let a = lookup_accepted x y (state_of s) e in
     let b = domain_bounds x y a.0 in
     record {
       points = holds s;
       some = omega (arith, a.1, points_held s);
-      sees = record { location = refl; metric = sym k };
-      proper = record { x = b.0; y = b.1; scaled = rw k (read_scaled s.metric) };
+      sees = record { location = refl };
+      proper = record { x = b.0; y = b.1 };
       radius = h;
       reach = omega arith;
     }

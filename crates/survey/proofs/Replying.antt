@@ -9,7 +9,7 @@ use Rattle.model.specs.Program.{state_in}
 use Rattle.laws.proofs.CallLaws.{edited_accepted, edited_refused}
 use Rattle.survey.specs.declared.Survey.{Survey}
 use Rattle.survey.specs.declared.Reply.{Reply}
-use Rattle.survey.specs.StateOf.{contents_in, state_of, PlainContents, Plain, Settles}
+use Rattle.survey.specs.StateOf.{contents_in, state_of, PlainPoints, Plain, Settles}
 use Rattle.survey.specs.Replies.{Replies}
 
 module _ (c : Call) (s : Survey) where
@@ -23,7 +23,7 @@ module _ (c : Call) (s : Survey) where
       }
 
   -- u is t with what is kept worked out anew
-  pub reply_accepted : (n : ℕ) (t u : Survey) → n ≡ refusal c (contents_in s) → n ≡ 0 → contents_in t ≡ accepted c (contents_in s) → (PlainContents s → PlainContents t)
+  pub reply_accepted : (n : ℕ) (t u : Survey) → n ≡ refusal c (contents_in s) → n ≡ 0 → contents_in t ≡ accepted c (contents_in s) → (PlainPoints s → PlainPoints t)
       → Settles t u → Replies c s (record { refusal = n; survey = u })
   unfolding Plain
   reply_accepted n t u e h g p b =

@@ -62,7 +62,7 @@ pub(crate) fn with_value(s: Survey, i: usize, x: u32, y: u32, z: i32) -> Survey
 pub(crate) fn settled(s: Survey) -> Survey
     ensures { Settles s result }
 {
-    let e = extent::extent_of(&s.x, &s.y, &s.z, s.count, s.metric);
+    let e = extent::extent_of(&s.x, &s.y, &s.z, s.count);
     let mut t = s;
     t.extent = e;
     t

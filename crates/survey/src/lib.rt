@@ -1,4 +1,4 @@
-// The survey: at most 256 points, ascending by x, then y, and the scales by which distances are taken. What is kept of them stands beside them. A call takes the survey by value; one that edits gives it back beside the refusal's number.
+// The survey: at most 256 points, ascending by x, then y. What is kept of them stands beside them. A call takes the survey by value; one that edits gives it back beside the refusal's number.
 mod edits;
 
 ghost use Rattle.std.specs.Prelude.{◌≡◌, ◌≤◌, length};
@@ -6,7 +6,7 @@ ghost use Rattle.model.specs.Point.{location};
 ghost use Rattle.model.specs.Extent.{settled};
 ghost use Rattle.model.specs.Refusals.{lookup_refusal};
 ghost use Rattle.model.specs.SurveyFile.{written_into};
-ghost use Rattle.model.specs.Calls.{Add, Change, Drop, Clear, Load, Scale, fresh as fresh_state};
+ghost use Rattle.model.specs.Calls.{Add, Change, Drop, Clear, Load, fresh as fresh_state};
 ghost use Rattle.extent.specs.Kept.{as_extent};
 ghost use Rattle.survey_file.specs.Written.{written_as};
 ghost use Rattle.lookup.specs.AnswersAs.{AnswersAs};
@@ -16,7 +16,7 @@ ghost use Rattle.survey.specs.LookedUp.{looked_up, Rounded, Decides};
 
 pub use extent::Extent;
 use lookup::Answered;
-use metric::{Metric, Viewpoint};
+use metric::Viewpoint;
 use neighbour_records::RecordList;
 pub use neighbour_records::{Record, blank};
 use neighbours::Chosen;
@@ -28,7 +28,6 @@ pub struct Survey {
     y: [u16; 256],
     z: [i8; 256],
     count: usize,
-    metric: Metric,
     extent: Extent,
 }
 
@@ -53,7 +52,7 @@ pub struct Decision {
     pub list: RecordList,
 }
 
-// A survey of no points, both scales 1.
+// A survey of no points.
 pub fn fresh() -> Survey
     ensures { (state_of result ≡ settled fresh_state) × Plain result }
 {
@@ -62,7 +61,6 @@ pub fn fresh() -> Survey
         y: [0u16; 256],
         z: [0i8; 256],
         count: 0,
-        metric: metric::unscaled(),
         extent: extent::zeros(),
     }
 }
@@ -140,20 +138,19 @@ pub fn drop(s: Survey, x: u32, y: u32) -> Reply
     }
 }
 
-// All points taken out, both scales 1.
+// All points taken out.
 pub fn clear(s: Survey) -> Reply
     ensures { Replies Clear s result }
 {
     let mut t = s;
     t.count = 0;
-    t.metric = metric::unscaled();
     Reply {
         refusal: 0,
         survey: edits::settled(t),
     }
 }
 
-// The points of a survey file in place of the survey's, both scales 1: refusals 9 to 15.
+// The points of a survey file in place of the survey's: refusals 9 to 15.
 pub fn load(s: Survey, file: &[u8]) -> Reply
     ensures { Replies (Load file.now) s result }
 {
@@ -164,35 +161,13 @@ pub fn load(s: Survey, file: &[u8]) -> Reply
     let xs = f.x;
     let ys = f.y;
     let zs = f.z;
-    let m = metric::unscaled();
     let mut t = s;
     t.x = xs;
     t.y = ys;
     t.z = zs;
     t.count = f.count;
-    t.metric = m;
     Reply {
         refusal: f.refusal,
-        survey: edits::settled(t),
-    }
-}
-
-// Scales by which differences in x and in y are taken: refusal 18.
-pub fn set_scales(s: Survey, x: u32, y: u32) -> Reply
-    ensures { Replies (Scale x y) s result }
-{
-    let no = refusals::of_scales(x, y);
-    if no != 0 {
-        return refused(no, s);
-    }
-    let scales = Metric {
-        scale_x: x as u16,
-        scale_y: y as u16,
-    };
-    let mut t = s;
-    t.metric = scales;
-    Reply {
-        refusal: no,
         survey: edits::settled(t),
     }
 }
@@ -213,7 +188,6 @@ fn answered(s: Survey, x: u32, y: u32) -> Answered
     let v = Viewpoint {
         x: x as u16,
         y: y as u16,
-        metric: metric::read(s.metric),
     };
     let e = s.extent;
     let r0 = extent::clamped(e.radius);

@@ -1,11 +1,14 @@
 -- `zeros` meets its contract: of no point all is 0.
-use mathlib.Core.Path.{refl}
+use mathlib.Core.Path.{refl, sym}
 use native.Mathlib.Omega.{arith}
+use mathlib.Core.List.{[]}
+use Rattle.model.specs.Point.{contents_of}
+use Rattle.laws.proofs.ExtentLaws.{ends_none}
 use Rattle.extent.proofs.zeros.Statement.{statement}
 use Rattle.extent.proofs.zeros.Tie as tie
 
 returns : tie.Need-returns
-returns c = (refl, omega arith)
+returns c = (sym (ends_none (contents_of []) refl), omega arith)
 
 pub zeros_spec : {M : Type 1} → statement M
 zeros_spec = tie.close (tie.spec returns)

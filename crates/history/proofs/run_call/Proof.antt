@@ -11,7 +11,7 @@ use mir.Syntax.{w32}
 use Rattle.model.specs.Point.{Contents}
 use Rattle.model.specs.Extent.{settled}
 use Rattle.model.specs.Bytes.{signed}
-use Rattle.model.specs.Calls.{Add, Change, Drop, Clear, Load, Scale, after}
+use Rattle.model.specs.Calls.{Add, Change, Drop, Clear, Load, after}
 use Rattle.laws.proofs.CallLaws.{after_ask}
 use Rattle.survey.specs.Replies.{Replies}
 use Rattle.history.specs.Encoding.{call_of}
@@ -111,34 +111,17 @@ returns-5 c q e =
     let a = t.before.before.before.before.before.before.args in
     replied (Load a.file.now) a.s _ c.before.load.ensures q e ∙ numbered a.t3 a.file.now q t.if5.true
 
-array-read-set-scales : tie.Need-array-read-set-scales
-array-read-set-scales c = search rules
-
-array-read-set-scales-2 : tie.Need-array-read-set-scales-2
-array-read-set-scales-2 c = search rules
-
-set-scales-requires : tie.Need-set-scales-requires
-set-scales-requires c κs = tt
-
 returns-6 : tie.Need-returns-6
 unfolding call_of
 returns-6 c q e =
-    let t = c.before.before in
-    let a = t.before.before.before.before.before.before.before.args in
-    replied (Scale (get_or a.t3 0 0) (get_or a.t3 1 0)) a.s _ c.before.set-scales.ensures q e ∙ numbered a.t3 a.file.now q t.if6.true
-
-returns-7 : tie.Need-returns-7
-unfolding call_of
-returns-7 c q e =
-    let d = c.before.before in
+    let d = c.before in
     let a = d.before.before.before.before.before.args in
     rw (
       ne_eqb a.op 0 d.before.before.before.if1.false,
       ne_eqb a.op 1 d.before.before.if2.false,
       ne_eqb a.op 2 d.before.if3.false,
       ne_eqb a.op 3 d.if4.false,
-      ne_eqb a.op 4 c.before.if5.false,
-      ne_eqb a.op 5 c.if6.false,
+      ne_eqb a.op 4 c.if5.false,
     )
     (e ∙ ap settled (sym (after_ask q)))
 
@@ -166,8 +149,4 @@ run_call_spec =
     returns-4
     load-requires
     returns-5
-    array-read-set-scales
-    array-read-set-scales-2
-    set-scales-requires
-    returns-6
-    returns-7)
+    returns-6)

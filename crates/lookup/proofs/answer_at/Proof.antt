@@ -14,7 +14,6 @@ use Rattle.model.specs.Mean.{Right}
 use Rattle.point_arrays.proofs.ReadLaws.{length_points, points_inside}
 use Rattle.error_bound.proofs.AnswerRight.{answer_right}
 use Rattle.metric.specs.declared.Viewpoint.{Viewpoint}
-use Rattle.metric.proofs.FromLaws.{scaled_seen}
 use Rattle.neighbours.specs.declared.Chosen.{Chosen}
 use Rattle.neighbours.specs.Chose.{Chose}
 use Rattle.lookup.specs.Asked.{Handed, Asked}
@@ -25,7 +24,6 @@ use Rattle.lookup.proofs.answer_at.Tie as tie
 asked : (s : State) (p : Location) (xs ys : List ℕ) (zs : List ℤ) (n : ℕ) (v : Viewpoint) (r0 : ℕ) (c : Chosen) → Handed s p xs ys zs n v r0 → Chose s p c → Asked s p c
 asked s p xs ys zs n v r0 c h chose = record {
   domain = rw h.sees.location (h.proper.x, h.proper.y);
-  scaled = scaled_seen s p v h.sees h.proper;
   some = omega (arith, h.some, ap length h.points, length_points xs ys zs n);
   inside = subst (All (λ (a : Point). in_domain a.x a.y ≡ true)) (sym h.points) (points_inside xs ys zs n);
   kept = rw (← h.radius) h.reach;

@@ -1,27 +1,42 @@
--- `offset_x` meets its contract: the scale and the location are the viewpoint's, and the coordinate is read.
-use mathlib.Core.Path.{ap, ◌∙◌}
+-- `offset_x` meets its contract: coordinates as they are read are below 4,096, so the difference fits.
+use mathlib.Core.Path.{ap₂, ◌∙◌}
 use Prim.Native.Nat.{ℕ}
-use lib.IntN.{pos, ◌-ℤ◌, ◌*ℤ◌}
+use native.Mathlib.Omega.{arith}
+use lib.IntN.{pos, ◌-ℤ◌}
 use borrow.Author.Rules.{rules}
-use mir.Facts.{to_z-of_z}
-use mir.Syntax.{w16}
 use Rattle.metric.specs.From.{offset_xFrom}
+use Rattle.metric.proofs.Widths.{difference_fits, difference_is}
 use Rattle.metric.proofs.offset_x.Statement.{statement}
 use Rattle.metric.proofs.offset_x.Tie as tie
 
 coordinate-requires : tie.Need-coordinate-requires
 coordinate-requires c κs = search rules
 
-offset-requires : tie.Need-offset-requires
-offset-requires c κs = search rules
+cast-result : tie.Need-overflow-cast-result
+cast-result c = search rules
+
+coordinate-requires-2 : tie.Need-coordinate-requires-2
+coordinate-requires-2 c κs = search rules
+
+cast-result-2 : tie.Need-overflow-cast-result-2
+cast-result-2 c = search rules
+
+sub-result : tie.Need-overflow-sub-result
+sub-result c = difference_fits c.before.coordinate.result c.coordinate2.result (omega arith) (omega arith)
 
 returns : tie.Need-returns
 unfolding offset_xFrom
 returns c =
-    let v = c.before.before.before.args.v in
-    to_z-of_z {w = w16} {z = c.offset.result} (record { sfits = c.offset.type-inv })
-    ∙ c.offset.ensures
-    ∙ ap (λ (n : ℕ). pos v.metric.scale_x *ℤ (pos n -ℤ pos v.x)) c.before.coordinate.ensures
+    difference_is c.before.coordinate.result c.coordinate2.result (omega arith) (omega arith)
+    ∙ ap₂ (λ (m n : ℕ). pos m -ℤ pos n) c.before.coordinate.ensures c.coordinate2.ensures
 
 pub offset_x_spec : {M : Type 1} → statement M
-offset_x_spec = tie.close (tie.spec coordinate-requires offset-requires returns)
+offset_x_spec =
+    tie.close
+    (tie.spec
+    coordinate-requires
+    cast-result
+    coordinate-requires-2
+    cast-result-2
+    sub-result
+    returns)

@@ -22,10 +22,10 @@ first-requires : tie.Need-first-requires
 first-requires c κs = search rules
 
 returns : tie.Need-returns
-returns c = λ s p n points scaled held er.
+returns c = λ s p n points held er.
     let a = c.before.before.before.before.before.args in
     let k = c.before.before.count-within.ensures in
-    gathered s p a.squares.now held scaled (subst (All (λ (e : Point). (e.x < 4096) × (e.y < 4096))) (sym points) (points_below a.xs.now a.ys.now a.zs.now n)) _ a.r0 _ _ _ k.1 k.0 er c.before.before.before.reach_of.ensures
+    gathered s p a.squares.now held (subst (All (λ (e : Point). (e.x < 4096) × (e.y < 4096))) (sym points) (points_below a.xs.now a.ys.now a.zs.now n)) _ a.r0 _ _ _ k.1 k.0 er c.before.before.before.reach_of.ensures
     c.before.limit-for.ensures (c.first.ensures.0 s p n points held) c.first.ensures.1
 
 pub among_spec : {M : Type 1} → statement M

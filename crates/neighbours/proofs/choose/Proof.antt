@@ -16,7 +16,7 @@ selected-requires : tie.Need-selected-requires
 selected-requires c κs = search rules
 
 filled-requires : tie.Need-filled-requires
-filled-requires c κs = (c.before.before.before.requires, c.selected.ensures.0)
+filled-requires c κs = c.selected.ensures.0
 
 returns : tie.Need-returns
 returns c = λ s p points sees er.
@@ -25,7 +25,7 @@ returns c = λ s p points sees er.
     let a = b.before.before.args in
     let h = b.nearest-points.ensures s p points sees er in
     let m = b.before.clamped.ensures ∙ sym (length_points a.xs.now a.ys.now a.zs.now a.n) ∙ sym (ap length points) in
-    c.filled.ensures s p _ _ sees h m (d.selected.ensures.1 s p h m er)
+    c.filled.ensures s p _ _ sees b.before.before.requires h m (d.selected.ensures.1 s p h m er)
 
 pub choose_spec : {M : Type 1} → statement M
 choose_spec =

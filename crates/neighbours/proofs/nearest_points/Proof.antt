@@ -4,7 +4,6 @@ use native.Mathlib.Omega.{arith}
 use lib.ListN.{drop, length-take, length-append}
 use lib.Seq.{length-take-le}
 use borrow.Author.Rules.{rules}
-use Rattle.metric.proofs.FromLaws.{scaled_seen}
 use Rattle.neighbours.proofs.Gathering.{room_taken, filled_front}
 use Rattle.neighbours.proofs.nearest_points.Statement.{statement}
 use Rattle.neighbours.proofs.nearest_points.Tie as tie
@@ -45,7 +44,7 @@ returns c = λ s p points sees er.
     let room = f.before.before.blank in
     let held = f.fill.ensures s p a.zs.now a.n points sees (room_taken a.n m.result m.ensures room.result room.ensures) in
     let e = filled_front a.n m.result m.ensures s p a.xs.now a.ys.now a.zs.now l (drop m.result room.result) points held in
-    c.among.ensures s p a.n points (scaled_seen s p a.v sees f.before.before.before.before.requires) (rw e held) er
+    c.among.ensures s p a.n points (rw e held) er
 
 pub nearest_points_spec : {M : Type 1} → statement M
 nearest_points_spec =

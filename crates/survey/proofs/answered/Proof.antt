@@ -1,4 +1,4 @@
--- `answered` meets its contract, which is that of the arithmetic over arrays, with the scales as they are read and the R0 that is kept.
+-- `answered` meets its contract, which is that of the arithmetic over arrays, with the R0 that is kept.
 use native.Mathlib.Omega.{arith}
 use Rattle.survey.specs.StateOf.{state_of}
 use Rattle.laws.proofs.CallLaws.{lookup_accepted}
@@ -13,28 +13,22 @@ cast-t8 c = let a = c.args in omega (arith, (domain_bounds a.x a.y (lookup_accep
 cast-t9 : tie.Need-overflow-cast-t9
 cast-t9 c = let a = c.args in omega (arith, (domain_bounds a.x a.y (lookup_accepted a.x a.y (state_of a.t1) c.requires).0).1)
 
-read-requires : tie.Need-read-requires
-read-requires c κs = tt
-
 clamped-requires : tie.Need-clamped-requires
 clamped-requires c κs = tt
 
 answer-at-requires : tie.Need-answer-at-requires
 answer-at-requires c κs =
     let r = c.before.before.before.before in
-    let m = r.before.before in
-    let b = m.before.before in
+    let b = r.before.before in
     let a = b.args in
-    (state_of a.t1, _, handed a.t1 a.x a.y _ m.read.result b.requires m.read.ensures r.clamped.ensures)
+    (state_of a.t1, _, handed a.t1 a.x a.y _ b.requires r.clamped.ensures)
 
 returns : tie.Need-returns
 returns c =
     let r = c.before.before.before.before.before in
-    let m = r.before.before in
-    let b = m.before.before in
+    let b = r.before.before in
     let a = b.args in
-    c.answer_at.ensures (state_of a.t1) _ (handed a.t1 a.x a.y _ m.read.result b.requires m.read.ensures r.clamped.ensures)
+    c.answer_at.ensures (state_of a.t1) _ (handed a.t1 a.x a.y _ b.requires r.clamped.ensures)
 
 pub answered_spec : {M : Type 1} → statement M
-answered_spec =
-    tie.close (tie.spec cast-t8 cast-t9 read-requires clamped-requires answer-at-requires returns)
+answered_spec = tie.close (tie.spec cast-t8 cast-t9 clamped-requires answer-at-requires returns)

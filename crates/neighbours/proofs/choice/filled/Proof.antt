@@ -8,7 +8,7 @@ neighbours-requires : tie.Need-neighbours-requires
 neighbours-requires c κs = search rules
 
 returns : tie.Need-returns
-returns c = λ s p n k v h e g. gives_selected s p _ v n _ _ k _ _ h e g c.before.before.requires.1 c.neighbours.ensures
+returns c = λ s p n k v q h e g. gives_selected s p _ v q n _ _ k _ _ h e g c.before.before.requires c.neighbours.ensures
 
 pub filled_spec : {M : Type 1} → statement M
 filled_spec = tie.close (tie.spec neighbours-requires returns)

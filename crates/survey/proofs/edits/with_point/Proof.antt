@@ -48,7 +48,7 @@ returns c =
     let f = sound_fits a.x a.y a.z b.requires.2 in
     let e : Sized a.s.x a.s.y a.s.z = search rules in
     becomes_put a.s _ e a.i a.x a.y a.z b.requires.0 b.requires.1 f.fits_x f.fits_y
-    c.before.before.put-u16.ensures c.before.put-u162.ensures (rw (to_z-of_z b.ranges.z, to_z-of_z f.fits_z) at c.put-i8.ensures) refl refl
+    c.before.before.put-u16.ensures c.before.put-u162.ensures (rw (to_z-of_z b.ranges.z, to_z-of_z f.fits_z) at c.put-i8.ensures) refl
 
 pub with_point_spec : {M : Type 1} → statement M
 with_point_spec =

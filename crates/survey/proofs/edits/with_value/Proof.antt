@@ -44,7 +44,7 @@ returns c =
     let a = c.args in
     let f = sound_fits a.x a.y a.z c.requires.1 in
     let e : Sized a.s.x a.s.y a.s.z = search rules in
-    becomes_over a.s _ e a.i a.x a.y a.z c.requires.0 f.fits_x f.fits_y refl refl (rw (to_z-of_z c.ranges.z, to_z-of_z f.fits_z)) refl refl
+    becomes_over a.s _ e a.i a.x a.y a.z c.requires.0 f.fits_x f.fits_y refl refl (rw (to_z-of_z c.ranges.z, to_z-of_z f.fits_z)) refl
 
 pub with_value_spec : {M : Type 1} → statement M
 with_value_spec =

@@ -1,7 +1,7 @@
 -- `without_point` meets its contract: what is taken out of each array is taken out of the points.
 use Prim.Native.Nat.{ℕ, ◌-◌}
 use native.Mathlib.Omega.{arith}
-use mathlib.Core.Path.{◌≡◌, refl, ap}
+use mathlib.Core.Path.{ap}
 use borrow.Author.Rules.{rules}
 use Rattle.point_arrays.proofs.EditLaws.{Sized}
 use Rattle.survey.proofs.Becoming.{points_held, becomes_cut}
@@ -30,9 +30,8 @@ returns c =
     let n = c.before.before.before.before.before.before in
     let a = n.before.args in
     let e : Sized a.s.x a.s.y a.s.z = search rules in
-    let m : a.s.metric ≡ a.s.metric = refl in
     becomes_cut a.s _ e a.i n.before.requires c.before.before.cut-u16.ensures c.before.cut-u162.ensures c.cut-i8.ensures
-    (ap (λ (m : ℕ). m - 1) n.clamped.ensures) m
+    (ap (λ (m : ℕ). m - 1) n.clamped.ensures)
 
 pub without_point_spec : {M : Type 1} → statement M
 without_point_spec =
