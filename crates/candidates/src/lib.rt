@@ -10,7 +10,7 @@ ghost use Rattle.candidates.specs.Keys.{key_of, key_at, squared_of, candidate_of
 ghost use Rattle.candidates.specs.First.{list_of, HoldsFirst, InRange};
 
 // A point with its distance D, before it is known whether it is chosen.
-#[derive(Drop)]
+#[derive(Clone, Copy)]
 pub struct Candidate {
     pub x: u16,
     pub y: u16,
@@ -19,7 +19,7 @@ pub struct Candidate {
 }
 
 // The first `count` of `items`, in order.
-#[derive(Drop)]
+#[derive(Clone, Copy)]
 pub struct Candidates {
     pub items: [Candidate; 11],
     pub count: usize,

@@ -75,7 +75,7 @@ pub fn line(label: &[u8], n: u64, out: &mut [u8]) -> usize
     ensures value { result ≡ length (line_of label.now n) }
     ensures out_after { out.new ≡ laid (line_of label.now n) out.old }
 {
-    let at = bytes::copy(label, out);
+    let at = numbers::copy(label, out);
     let end = at + put(n, &mut out[at..]);
     out[end] = b'\n';
     end + 1
@@ -105,7 +105,7 @@ pub fn hexadecimal(s: &[u8], out: &mut [u8])
     while i < s.len() {
         let b = hex_pair(s[i]);
         let at = 2 * i;
-        bytes::copy(&b, &mut out[at..]);
+        numbers::copy(&b, &mut out[at..]);
         i += 1;
     }
 }

@@ -6,7 +6,7 @@ ghost use Rattle.point_arrays.specs.PointArrays.{points_in};
 ghost use Rattle.extent.specs.Kept.{as_extent, EndsOf};
 
 // The least and the greatest x, y and value, and R0 in 256ths of a step.
-#[derive(Drop)]
+#[derive(Clone, Copy)]
 pub struct Extent {
     pub least_x: u16,
     pub greatest_x: u16,

@@ -57,5 +57,5 @@ pub fn write(g: Grid, values: &[i16], out: &mut [u8])
     let end = 2 * values.len();
     cells(values, &mut out[..end]);
     let t = trailer(g, end);
-    bytes::copy(&t, &mut out[end..]);
+    numbers::copy(&t, &mut out[end..]);
 }

@@ -11,7 +11,7 @@ use survey::Reply;
 use survey_file::Written;
 
 // The first `length` of the bytes are meant: room for every grid file and for every Esri ASCII grid.
-#[derive(Drop)]
+#[derive(Clone, Copy)]
 pub struct Output {
     pub bytes: [u8; 57434],
     pub length: usize,

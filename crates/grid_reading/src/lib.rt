@@ -7,7 +7,7 @@ ghost use Rattle.grid_reading.specs.ReadAs.{OpensAs, cells_read_as};
 pub use grid_rules::{Filled, Grid};
 
 // What opening a grid file gives: 0 and its six numbers, or the refusal's number and six zeros.
-#[derive(Drop)]
+#[derive(Clone, Copy)]
 pub struct Opened {
     pub refusal: u8,
     pub grid: Grid,

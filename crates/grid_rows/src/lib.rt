@@ -7,7 +7,7 @@ pub use grid_rules::Grid;
 use survey::Survey;
 
 // The grid being filled: the survey at the begin, the grid, and the index of its next row. It stands beside the survey, which is edited meanwhile; a grid that no begin accepts stands for none begun.
-#[derive(Drop)]
+#[derive(Clone, Copy)]
 pub struct Filling {
     survey: Survey,
     grid: Grid,
@@ -15,21 +15,21 @@ pub struct Filling {
 }
 
 // What a begin gives: 0 or the refusal's number, and the grid being filled, the same one where it is refused.
-#[derive(Drop)]
+#[derive(Clone, Copy)]
 pub struct BeginReply {
     pub refusal: u8,
     pub filling: Filling,
 }
 
 // What a row answers: its index, counted from 0, and how many cells it has; or the refusal's number.
-#[derive(Drop)]
+#[derive(Clone, Copy)]
 pub enum RowAnswer {
     Row(usize, usize),
     Refused(u8),
 }
 
 // What a row gives: its answer, and the grid being filled, the same one where it is refused.
-#[derive(Drop)]
+#[derive(Clone, Copy)]
 pub struct RowReply {
     pub answer: RowAnswer,
     pub filling: Filling,

@@ -7,7 +7,7 @@ ghost use Rattle.model.specs.Esri.{esri_check};
 ghost use Rattle.grid_rules.specs.GridOf.{grid_of};
 
 // The first column and row stand at (x0, y0), the others a step apart.
-#[derive(Drop)]
+#[derive(Clone, Copy)]
 pub struct Grid {
     pub x0: u16,
     pub y0: u16,
@@ -18,7 +18,7 @@ pub struct Grid {
 }
 
 // What filling cells answers: how many were filled, or the refusal's number.
-#[derive(Drop)]
+#[derive(Clone, Copy)]
 pub enum Filled {
     Cells(usize),
     Refused(u8),

@@ -7,7 +7,7 @@ ghost use Rattle.influence.specs.Carried.{carried, kind_of, factor_of, edge_of};
 use floats::to_float;
 
 // The four influences, with the factor where it has to be worked out.
-#[derive(Drop)]
+#[derive(Clone, Copy)]
 pub enum Influence {
     Coincident,
     Inverse(f64),

@@ -11,7 +11,7 @@ ghost use Rattle.survey.specs.LookedUp.{looked_up_lent, Rounded};
 use survey::{Answer, Record, Survey};
 
 // What a lookup lent records of an array gives: the answer, and the array after the call.
-#[derive(Drop)]
+#[derive(Clone, Copy)]
 pub struct AnswerWithRecords {
     pub answer: Answer,
     pub records: [Record; 32],

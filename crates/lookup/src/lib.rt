@@ -14,7 +14,7 @@ use neighbours::Chosen;
 use value::{least_value, lessened};
 
 // The answer of a lookup, in 256ths of a step, and the neighbours that it goes by.
-#[derive(Drop)]
+#[derive(Clone, Copy)]
 pub struct Answered {
     pub answer: i16,
     pub chosen: Chosen,

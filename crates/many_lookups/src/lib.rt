@@ -71,7 +71,7 @@ fn fill(s: Survey, locations: &[u8], out: &mut [u8])
         };
         let b = fields(answer, n, radius);
         let at = 8 * i;
-        bytes::copy(&b, &mut out[at..]);
+        numbers::copy(&b, &mut out[at..]);
         i += 1;
     }
 }

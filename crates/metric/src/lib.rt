@@ -4,7 +4,7 @@ ghost use Rattle.model.specs.Distance.{gap as gap_of};
 ghost use Rattle.metric.specs.From.{Proper, squared_from, offset_xFrom, offset_yFrom};
 
 // The location of a lookup.
-#[derive(Drop)]
+#[derive(Clone, Copy)]
 pub struct Viewpoint {
     pub x: u16,
     pub y: u16,

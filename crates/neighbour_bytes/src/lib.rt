@@ -33,7 +33,7 @@ pub fn write(list: [Record; 32], n: usize, out: &mut [u8])
         let a = list[i];
         let b = fields(a);
         let at = 10 * i;
-        bytes::copy(&b, &mut out[at..]);
+        numbers::copy(&b, &mut out[at..]);
         i += 1;
     }
 }

@@ -8,7 +8,7 @@ ghost use Rattle.neighbour_records.specs.Records.{item_record, no_record, Listed
 use neighbours::{Chosen, Neighbour};
 
 // A chosen point, its distance D in 256ths of a step, and its kind: 0 coincident, 1 inverse, 2 tapered, 3 edge.
-#[derive(Drop)]
+#[derive(Clone, Copy)]
 pub struct Record {
     pub x: u16,
     pub y: u16,
@@ -18,7 +18,7 @@ pub struct Record {
 }
 
 // Records in order of choice: the first `count` of the items; what the others hold is free.
-#[derive(Drop)]
+#[derive(Clone, Copy)]
 pub struct RecordList {
     pub items: [Record; 10],
     pub count: usize,

@@ -14,7 +14,7 @@ use candidates::Candidates;
 use metric::Viewpoint;
 
 // A chosen point with its distance D and its offsets from the location. In this order of the fields a copy of the struct does not part the two offsets.
-#[derive(Drop)]
+#[derive(Clone, Copy)]
 pub struct Neighbour {
     pub dx: i16,
     pub dy: i16,
@@ -25,7 +25,7 @@ pub struct Neighbour {
 }
 
 // The neighbours, the first `count` of `items` in order of choice; the radius R; and whether four points or fewer are present.
-#[derive(Drop)]
+#[derive(Clone, Copy)]
 pub struct Chosen {
     pub items: [Neighbour; 10],
     pub count: usize,
@@ -34,14 +34,14 @@ pub struct Chosen {
 }
 
 // How many of the nearest are chosen, and the radius R.
-#[derive(Drop)]
+#[derive(Clone, Copy)]
 struct Selection {
     count: usize,
     radius: u32,
 }
 
 // The first points in order, as many as the choice goes by, and how many points are within R0.
-#[derive(Drop)]
+#[derive(Clone, Copy)]
 struct Nearest {
     first: Candidates,
     within: u32,

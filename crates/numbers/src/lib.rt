@@ -2,6 +2,7 @@
 ghost use Rattle.std.specs.Prelude.{◌≡◌, ◌+◌, ◌^◌, ◌<◌, ◌≤◌, nat_abs, length};
 ghost use Rattle.model.specs.Bytes.{word_at, long_at, complement, signed, same as same_as, total as total_of};
 ghost use Rattle.model.specs.Distance.{gap as gap_of};
+ghost use Rattle.model.specs.Lists.{laid as laid_of};
 ghost use Rattle.model.specs.Extent.{lesser as lesser_of, greater as greater_of};
 
 // A byte as a wider number.
@@ -42,6 +43,17 @@ pub fn same<'a>(s: &'a [u8], t: &'a [u8]) -> bool
         k += 1;
     }
     true
+}
+
+// Writes bytes to the front of a list, and answers how many they are.
+pub fn copy(from: &[u8], to: &mut [u8]) -> usize
+    requires { length from.now ≤ length to.old }
+    ensures count { result ≡ length from.now }
+    ensures laid { to.new ≡ laid_of from.now to.old }
+{
+    let n = from.len();
+    to[..n].copy_from_slice(from);
+    n
 }
 
 // The sum of at most 1,280 bytes.

@@ -6,7 +6,7 @@ ghost use Rattle.point_arrays.specs.PointArrays.{locations_in};
 ghost use Rattle.polygon.specs.Stacked.{stacked, turn_of, laced};
 
 // The corners of a side of the polygon, from the first point on.
-#[derive(Drop)]
+#[derive(Clone, Copy)]
 struct Corners {
     xs: [u16; 256],
     ys: [u16; 256],

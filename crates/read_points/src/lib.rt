@@ -5,7 +5,7 @@ ghost use Rattle.point_arrays.specs.PointArrays.{held};
 ghost use Rattle.read_points.specs.Rank.{fault_by};
 
 // 0 or the refusal's number, and with 0 the points.
-#[derive(Drop)]
+#[derive(Clone, Copy)]
 pub struct Points {
     pub refusal: u8,
     pub x: [u16; 256],

@@ -13,7 +13,7 @@ pub fn fill(out: &mut [u8]) -> bool {
 }
 
 // The bytes of a call's arguments, and whether all of them came.
-#[derive(Drop)]
+#[derive(Clone, Copy)]
 pub struct Arguments {
     pub whole: bool,
     pub bytes: [u8; 16],

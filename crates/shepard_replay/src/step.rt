@@ -2,7 +2,7 @@
 use grid_rows::Filling;
 use survey::Survey;
 
-#[derive(Drop)]
+#[derive(Clone, Copy)]
 pub struct Step {
     pub going: bool,
     pub survey: Survey,
@@ -29,7 +29,7 @@ pub fn bad_journal(s: Survey) -> Step {
 }
 
 // What a call leaves, and beside it the grid being filled.
-#[derive(Drop)]
+#[derive(Clone, Copy)]
 pub struct Turn {
     pub step: Step,
     pub filling: Filling,

@@ -22,7 +22,7 @@ pub use neighbour_records::{Record, blank};
 use neighbours::Chosen;
 use survey_file::Written;
 
-#[derive(Drop)]
+#[derive(Clone, Copy)]
 pub struct Survey {
     x: [u16; 256],
     y: [u16; 256],
@@ -32,21 +32,21 @@ pub struct Survey {
 }
 
 // What a call that edits gives: 0 or the refusal's number, and the survey, the same one where it is refused.
-#[derive(Drop)]
+#[derive(Clone, Copy)]
 pub struct Reply {
     pub refusal: u8,
     pub survey: Survey,
 }
 
 // What a lookup gives: the answer in 256ths of a step, the count of chosen points and the radius R in 256ths of a step; or the refusal's number.
-#[derive(Drop)]
+#[derive(Clone, Copy)]
 pub enum Answer {
     Found(i16, usize, u32),
     Refused(u8),
 }
 
 // What a lookup with neighbours decides: its answer, and the records to write to the list that it was lent, none where it is refused.
-#[derive(Drop)]
+#[derive(Clone, Copy)]
 pub struct Decision {
     pub answer: Answer,
     pub list: RecordList,

@@ -6,7 +6,7 @@ ghost use Rattle.survey_file.specs.Reading.{ReadsAs};
 ghost use Rattle.survey_file.specs.Written.{written_as};
 
 // What reading gives: 0 or the refusal's number, and the first `count` points of the arrays, none where it is refused.
-#[derive(Drop)]
+#[derive(Clone, Copy)]
 pub struct Reading {
     pub refusal: u8,
     pub x: [u16; 256],
@@ -16,7 +16,7 @@ pub struct Reading {
 }
 
 // What writing answers: the file's length in bytes, or the refusal's number.
-#[derive(Drop)]
+#[derive(Clone, Copy)]
 pub enum Written {
     Length(usize),
     Refused(u8),
@@ -82,6 +82,6 @@ pub fn write<'a>(
     write_points::write(x, y, z, n, &mut out[..end]);
     let sum = numbers::total(&out[..end]);
     let t = trailer::of_records(n, sum);
-    bytes::copy(&t, &mut out[end..]);
+    numbers::copy(&t, &mut out[end..]);
     Written::Length(end + 12)
 }

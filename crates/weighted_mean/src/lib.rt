@@ -7,7 +7,7 @@ ghost use Rattle.model.specs.Computed.{float, sum_f, scaled_mean_f};
 use floats::to_float;
 
 // Two running sums, of weights and of weighted numbers.
-#[derive(Drop)]
+#[derive(Clone, Copy)]
 struct Sums {
     weight: f64,
     value: f64,

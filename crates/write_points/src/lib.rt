@@ -27,7 +27,7 @@ pub fn write<'a>(x: &'a [u16; 256], y: &'a [u16; 256], z: &'a [i8; 256], n: usiz
     while i < n {
         let at = 5 * i;
         let r = record(x[i], y[i], z[i]);
-        bytes::copy(&r, &mut out[at..]);
+        numbers::copy(&r, &mut out[at..]);
         i += 1;
     }
 }
