@@ -1,4 +1,6 @@
 // Which points a lookup goes by: document 01, "Who is chosen", over lent arrays and a count.
+#![tactic(auto)]
+
 mod choice;
 
 ghost use Rattle.std.specs.Prelude.{◌≡◌, ℕ, ◌≤◌, length};
