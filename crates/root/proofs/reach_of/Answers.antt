@@ -9,8 +9,7 @@ use borrow.Author.Rules.{rules}
 use borrow.Author.Tests.{leb-true, leb-false, le-leb, lt-leb}
 use Rattle.model.specs.Distance.{distance_of}
 use Rattle.laws.proofs.RootLaws.{sq_le, distance_le_iff}
-use Rattle.root.proofs.reach_of.Statement.{statement}
-use Rattle.root.proofs.reach_of.Tie as tie
+use Rattle.root.proofs.reach_of.Goals as goal
 
 module _ (d k r : ℕ) where
   inside : 65536 * d ≤ r * r + 2 * r → distance_of d ≤ r
@@ -30,23 +29,14 @@ module _ (d k r : ℕ) where
 square_fits : (r : ℕ) → r < 4294967296 → r * r + 2 * r < 18446744073709551616
 square_fits r h = let g : r ≤ 4294967295 = omega arith in omega (arith, sq_le g)
 
-mul-k : tie.Need-overflow-mul-k
-mul-k c = omega (arith, square_fits c.args.r (search rules))
+pub overflow_mul-k : goal.overflow_mul-k
+overflow_mul-k c = omega (arith, square_fits c.args.r (search rules))
 
-mul-k-2 : tie.Need-overflow-mul-k-2
-mul-k-2 c = search rules
+pub overflow_add-k : goal.overflow_add-k
+overflow_add-k c = omega (arith, square_fits c.args.r (search rules))
 
-add-k : tie.Need-overflow-add-k
-add-k c = omega (arith, square_fits c.args.r (search rules))
+pub returns-then-k-lt-MOST : goal.returns-then-k-lt-MOST
+returns-then-k-lt-MOST c = λ d l. same_test d _ c.args.r (λ h. omega arith) (λ h. omega arith)
 
-cast-result : tie.Need-overflow-cast-result
-cast-result c = search rules
-
-returns : tie.Need-returns
-returns c = λ d l. same_test d _ c.before.args.r (λ h. omega arith) (λ h. omega arith)
-
-returns-2 : tie.Need-returns-2
-returns-2 c = λ d l. same_test d _ c.before.args.r (λ h. omega arith) (λ h. omega arith)
-
-pub reach_of_spec : {M : Type 1} → statement M
-reach_of_spec = tie.close (tie.spec mul-k mul-k-2 add-k cast-result returns returns-2)
+pub returns : goal.returns
+returns c = λ d l. same_test d _ c.args.r (λ h. omega arith) (λ h. omega arith)
