@@ -6,8 +6,8 @@ use Rattle.digits.proofs.decimal.Goals as goal
 pub put-requires : goal.put-requires
 put-requires c = omega (arith, places_most 19 c.args.n (omega arith))
 
-pub returns : goal.returns
-returns c =
-    let p = c.put in
-    let n = c.args.n in
-    (rw length_digits p.ensures.0, (omega (arith, places_most 19 n (omega arith)), p.ensures.1))
+pub returns-clause-upper_bound : goal.returns-clause-upper_bound
+returns-clause-upper_bound c = omega (arith, places_most 19 c.args.n (omega arith), c.put.ensures.value)
+
+pub returns-clause-value : goal.returns-clause-value
+returns-clause-value c = rw length_digits c.put.ensures.value

@@ -23,5 +23,5 @@ returns c =
     let s = c.spell in
     record {
       value = k.places-k.ensures.value;
-      out_after = spelled k.places-k.result a.n a.out.now s.new.1.0 k.places-k.ensures.value (omega arith) s.ensures;
+      out_after = spelled k.places-k.result a.n a.out.now s.new.out k.places-k.ensures.value (omega arith) s.ensures;
     }

@@ -28,9 +28,6 @@ module _ {z : ℤ} (f : SFits w64 z) (n : ℕ) (e : n ≡ nat_abs (to_z w64 (of_
   few : places n ≤ 19
   few = let h : n ≤ 2 ^ 63 = rw (e, to_z-of_z f) (nat_abs-le z f.sfits) in places_most 18 n (omega arith)
 
-at_most : (c : goal.After-absolute-n) → places c.absolute-n.result ≤ 19
-at_most c = few c.ranges.a c.absolute-n.result c.absolute-n.ensures
-
 -- a sign before the digits that were written from the second byte on
 sign_before : (n : ℕ) (d t : List ℕ) → 0 < length d → t ≡ laid (decimal n) (mid_of 1 (length d - 1) d)
     → set (put_mid 1 (length d - 1) d t) 0 45 ≡ laid (45 ∷ decimal n) d
@@ -39,32 +36,29 @@ sign_before n (b ∷ d) t h q =
     rw q (ap (λ (l : List ℕ). set l 0 45) (laid_after 1 (length (b ∷ d) - 1) (b ∷ []) (decimal n) (b ∷ d) refl (omega arith)))
 
 pub put-k-requires : goal.put-k-requires
-put-k-requires c = simp (length-take, length-drop) (omega (arith, at_most c))
+put-k-requires c = simp (length-take, length-drop) (omega (arith, few c.ranges.a c.absolute-n.result c.absolute-n.ensures))
 
 pub overflow_add-result : goal.overflow_add-result
-overflow_add-result c = omega (arith, at_most c)
+overflow_add-result c = omega (arith, few c.ranges.a c.absolute-n.result c.absolute-n.ensures, c.put-k.ensures.value)
 
-pub returns-then-a-lt0 : goal.returns-then-a-lt0
-returns-then-a-lt0 c =
-    let p = c in
-    let q = p in
-    let s = q.absolute-n in
-    let b = q in
-    rw
-    (below b.ranges.a s.result s.ensures q.if-a-lt0.true) (
-      rw length_digits (omega arith),
-      (omega (arith, at_most q), sign_before s.result b.args.out.now p.put-k.new.1.0 (omega arith) p.put-k.ensures.out_after),
-    )
+pub returns-then-a-lt0-clause-value : goal.returns-then-a-lt0-clause-value
+returns-then-a-lt0-clause-value c = rw (below c.ranges.a c.absolute-n.result c.absolute-n.ensures c.if-a-lt0.true, length_digits) (omega (arith, c.put-k.ensures.value))
+
+pub returns-then-a-lt0-clause-upper_bound : goal.returns-then-a-lt0-clause-upper_bound
+returns-then-a-lt0-clause-upper_bound c = omega (arith, few c.ranges.a c.absolute-n.result c.absolute-n.ensures, c.put-k.ensures.value)
+
+pub returns-then-a-lt0-clause-out_after : goal.returns-then-a-lt0-clause-out_after
+returns-then-a-lt0-clause-out_after c =
+    rw (below c.ranges.a c.absolute-n.result c.absolute-n.ensures c.if-a-lt0.true) (sign_before c.absolute-n.result c.args.out.now c.put-k.new.out (omega arith) c.put-k.ensures.out_after)
 
 pub put-requires : goal.put-requires
-put-requires c = omega (arith, at_most c)
+put-requires c = omega (arith, few c.ranges.a c.absolute-n.result c.absolute-n.ensures)
 
-pub returns : goal.returns
-returns c =
-    let p = c in
-    let q = p in
-    let s = q.absolute-n in
-    let b = q in
-    rw
-    (above b.ranges.a s.result s.ensures q.if-a-lt0.false)
-    (rw length_digits p.put.ensures.value, (omega (arith, at_most q), p.put.ensures.out_after))
+pub returns-clause-value : goal.returns-clause-value
+returns-clause-value c = rw (above c.ranges.a c.absolute-n.result c.absolute-n.ensures c.if-a-lt0.false, length_digits) c.put.ensures.value
+
+pub returns-clause-upper_bound : goal.returns-clause-upper_bound
+returns-clause-upper_bound c = omega (arith, few c.ranges.a c.absolute-n.result c.absolute-n.ensures, c.put.ensures.value)
+
+pub returns-clause-out_after : goal.returns-clause-out_after
+returns-clause-out_after c = rw (above c.ranges.a c.absolute-n.result c.absolute-n.ensures c.if-a-lt0.false) c.put.ensures.out_after
