@@ -3,14 +3,10 @@ use mathlib.Core.Path.{refl}
 use mir.Facts.{to_z-of_z}
 use Rattle.model.specs.Lists.{through}
 use Rattle.model.specs.Extent.{values_by}
-use Rattle.extent.proofs.ends_at.Statement.{statement}
-use Rattle.extent.proofs.ends_at.Tie as tie
+use Rattle.extent.proofs.ends_at.Goals as goal
 
-returns : tie.Need-returns
+pub returns : goal.returns
 unfolding through values_by
 returns c =
     let e = to_z-of_z c.ranges.z in
     record { least_x = refl; greatest_x = refl; least_y = refl; greatest_y = refl; least_z = e; greatest_z = e }
-
-pub ends_at_spec : {M : Type 1} → statement M
-ends_at_spec = tie.close (tie.spec returns)

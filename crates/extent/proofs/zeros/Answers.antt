@@ -4,11 +4,7 @@ use native.Mathlib.Omega.{arith}
 use mathlib.Core.List.{[]}
 use Rattle.model.specs.Point.{contents_of}
 use Rattle.laws.proofs.ExtentLaws.{ends_none}
-use Rattle.extent.proofs.zeros.Statement.{statement}
-use Rattle.extent.proofs.zeros.Tie as tie
+use Rattle.extent.proofs.zeros.Goals as goal
 
-returns : tie.Need-returns
+pub returns : goal.returns
 returns c = (sym (ends_none (contents_of []) refl), omega arith)
-
-pub zeros_spec : {M : Type 1} → statement M
-zeros_spec = tie.close (tie.spec returns)
