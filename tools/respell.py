@@ -5,7 +5,7 @@ usage: python3 tools/respell.py [--check]     at the top of the repository, once
 
 A name that a file of specs/ or proofs/ declares, in camel case or with dashes, gets underscores: `wordAt` is `word_at`, `file-again` is `file_again`.
 Names of types and modules stay, and so do names that Rattle makes (`c.word-at.ensures`) and names of its library.
-Two names of one file that would fall together are printed, and then nothing is written. --check only prints.
+Two names of one file that fall together are printed; a function of src/ may have the name of a definition. --check writes nothing.
 """
 
 import collections
@@ -132,6 +132,9 @@ def main(argv):
         quiet = QUIET if f.endswith(".antt") else QUIET_RT
         code = quiet.sub(" ", text)
         keep = foreign(code) - declared(code) if f.endswith(".antt") else foreign(code)
+        if f.endswith(".rt"):
+            # a name in snake case may be a function's of src/
+            keep |= {n for n in rows if re.fullmatch("[a-z0-9_]+", n)}
         new = turn(text, rows, quiet, keep, f.endswith(".antt"))
         seen = collections.defaultdict(set)
         for m in TOKEN.finditer(code):

@@ -1,4 +1,6 @@
 // The first points in order, of those within a limit, up to eleven: ten that may be chosen, and the first one left out.
+#![tactic(auto)]
+
 ghost use Rattle.std.specs.Prelude.{◌≡◌, map, ℕ, ◌<◌, ◌≤◌, min, max, ltb, length, take, get_or, true};
 ghost use Rattle.model.specs.Lists.{All};
 ghost use Rattle.model.specs.Order.{insert};

@@ -1,4 +1,6 @@
 // Numbers in decimal and bytes in hexadecimal, as ASCII text at the front of lent bytes.
+#![tactic(auto)]
+
 ghost use Rattle.std.specs.Prelude.{◌≡◌, ◌*◌, ◌≤◌, ◌<◌, length};
 ghost use Rattle.model.specs.Lists.{laid};
 ghost use Rattle.model.specs.Decimal.{digits_of, places as places_of, decimal as decimal_of, signed_decimal};

@@ -1,4 +1,6 @@
 // The Esri ASCII grid over a survey: document 02, §2.
+#![tactic(auto)]
+
 ghost use Rattle.std.specs.Prelude.{◌≡◌, length};
 ghost use Rattle.model.specs.Esri.{text_of_cells, esri_into};
 ghost use Rattle.survey.specs.StateOf.{state_of};

@@ -1,4 +1,6 @@
 // The texts of a grid's cells, and a row of them as a line: document 02, §2.
+#![tactic(auto)]
+
 ghost use Rattle.std.specs.Prelude.{◌≡◌, cond, [], ◌∷◌, ◌++◌, ◌+◌, ◌<◌, ◌≤◌, eqb, length};
 ghost use Rattle.model.specs.Lists.{laid};
 ghost use Rattle.model.specs.Esri.{size_text, cell_text, row_line};

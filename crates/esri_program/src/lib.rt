@@ -1,4 +1,6 @@
 // The Esri program as one function from bytes to bytes: document 02, §2.
+#![tactic(auto)]
+
 ghost use Rattle.model.specs.Program.{esri_program, esri_program_refusal};
 ghost use Rattle.grid_io.specs.Output.{RunsAs};
 

@@ -1,4 +1,6 @@
 // The Esri ASCII grid of a grid and its cells, and its length: document 02, §2.
+#![tactic(auto)]
+
 ghost use Rattle.std.specs.Prelude.{◌≡◌, ◌+◌, ◌*◌, ◌<◌, ◌≤◌, length};
 ghost use Rattle.model.specs.Lists.{laid};
 ghost use Rattle.model.specs.Decimal.{places};

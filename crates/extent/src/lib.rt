@@ -1,4 +1,6 @@
 // What is kept of the points: the ends of their coordinates and of their values, and the initial radius R0, over lent arrays and a count: document 02, §1.
+#![tactic(auto)]
+
 ghost use Rattle.std.specs.Prelude.{◌≡◌, List, [], ◌∷◌, ◌++◌, ◌^◌, ◌<◌, ◌≤◌, min, max, length};
 ghost use Rattle.model.specs.Point.{Point, point, contents_of};
 ghost use Rattle.model.specs.Extent.{extent_of};

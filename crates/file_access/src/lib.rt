@@ -1,4 +1,6 @@
 // How the functions over a survey file's bytes read the file, write one, and tell what came of a call.
+#![tactic(auto)]
+
 ghost use Rattle.survey.specs.StateOf.{contents_in};
 ghost use Rattle.file_access.specs.Access.{Reads, LengthTold, AnswerTold, Writes};
 

@@ -1,4 +1,6 @@
 // One point of a survey file edited, from bytes to bytes: the file after the call, with no preamble.
+#![tactic(auto)]
+
 ghost use Rattle.model.specs.Calls.{Add, Change, Drop};
 ghost use Rattle.file_edits.specs.Edits.{Edits};
 

@@ -1,4 +1,6 @@
 // Grids over a survey file's points, from bytes to bytes: the grid file, and the Esri ASCII grid.
+#![tactic(auto)]
+
 ghost use Rattle.std.specs.Prelude.{◌≡◌};
 ghost use Rattle.grid_rules.specs.GridOf.{grid_of, grid_from};
 ghost use Rattle.file_grids.specs.WritesGrid.{WritesGrid, WritesEsri};

@@ -1,4 +1,6 @@
 // Lookups in the points of a survey file: at one location, to numbers, and at a list of them, from bytes to bytes.
+#![tactic(auto)]
+
 ghost use Rattle.model.specs.Point.{location};
 ghost use Rattle.model.specs.Refusals.{lookup_refusal};
 ghost use Rattle.file_lookups.specs.FileLookups.{Finds, ManyFound};

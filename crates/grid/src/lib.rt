@@ -1,4 +1,6 @@
 // Grids over a survey: the cells, and the grid file.
+#![tactic(auto)]
+
 ghost use Rattle.std.specs.Prelude.{◌≡◌, true, ◌<◌, length};
 ghost use Rattle.model.specs.Grid.{proper, cells_into};
 ghost use Rattle.model.specs.GridFile.{grid_file, grid_file_length, grid_file_into};

@@ -1,4 +1,6 @@
 // The bytes of a grid file, from a grid and its cells: document 01, "Grid and grid file".
+#![tactic(auto)]
+
 ghost use Rattle.std.specs.Prelude.{◌≡◌, ◌+◌, ◌*◌, ◌≤◌, length};
 ghost use Rattle.model.specs.GridFile.{cells_bytes, grid_trailer, file_of_cells};
 ghost use Rattle.grid_rules.specs.GridOf.{grid_of};

@@ -1,4 +1,6 @@
 // A grid's cells over a survey, row by row, into lent cells and into an array of their own.
+#![tactic(auto)]
+
 ghost use Rattle.std.specs.Prelude.{◌≡◌, true, ◌<◌, length, take};
 ghost use Rattle.model.specs.Grid.{proper, cell_count, cell_location, row, cells as cells_of};
 ghost use Rattle.grid_rules.specs.GridOf.{grid_of};

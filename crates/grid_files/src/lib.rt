@@ -1,4 +1,6 @@
 // Grid files read for callers in C and Rust: the six numbers to lent numbers, the cells to lent cells.
+#![tactic(auto)]
+
 ghost use Rattle.grid_rules.specs.GridOf.{grid_from};
 ghost use Rattle.grid_files.specs.GridTold.{GridTold, CellsTold};
 

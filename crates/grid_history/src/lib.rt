@@ -1,4 +1,6 @@
 // The claim over every list of calls, of the Esri ASCII grid after it, as the contract of a function that runs one.
+#![tactic(auto)]
+
 ghost use Rattle.std.specs.Prelude.{◌≡◌, length};
 ghost use Rattle.model.specs.Extent.{settled};
 ghost use Rattle.model.specs.Calls.{present};

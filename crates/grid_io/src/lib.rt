@@ -1,4 +1,6 @@
 // What the grid programs share: how their input is read, and what they put out: document 01, "Grid and grid file", and document 02, §2.
+#![tactic(auto)]
+
 ghost use Rattle.std.specs.Prelude.{◌≡◌, List, ℕ, length};
 ghost use Rattle.model.specs.Lists.{laid};
 ghost use Rattle.model.specs.Refusals.{afterwards};

@@ -1,4 +1,6 @@
 // The grid program as one function from bytes to bytes: document 01, "Grid and grid file".
+#![tactic(auto)]
+
 ghost use Rattle.model.specs.Program.{grid_program, grid_program_refusal};
 ghost use Rattle.grid_io.specs.Output.{RunsAs};
 

@@ -1,4 +1,6 @@
 // A grid file read: its six numbers, and its cells into lent ones, or why it is refused.
+#![tactic(auto)]
+
 ghost use Rattle.std.specs.Prelude.{◌≡◌, ◌*◌, ◌≤◌, length};
 ghost use Rattle.model.specs.GridReading.{cells_of, cells_read_into};
 ghost use Rattle.grid_rules.specs.GridOf.{grid_of, grid_from};

@@ -1,4 +1,6 @@
 // A grid that is filled one row a call, over the survey as it stood at the begin: document 02, §6.
+#![tactic(auto)]
+
 ghost use Rattle.std.specs.Prelude.{◌≡◌, length};
 ghost use Rattle.model.specs.Filling.{NoGrid, row_refusal, row_into};
 ghost use Rattle.grid_rows.specs.FillingOf.{filling_of, Begins, Advances, rowed_as, RowRounded};

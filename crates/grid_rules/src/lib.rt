@@ -1,4 +1,6 @@
 // A grid's six numbers, their rules, and why a grid is refused: document 01, "Grid and grid file", and document 02, §2.
+#![tactic(auto)]
+
 ghost use Rattle.std.specs.Prelude.{◌≡◌, cond, ◌+◌, ◌*◌, ◌^◌, ◌<◌, eqb, length};
 ghost use Rattle.model.specs.Point.{State};
 ghost use Rattle.model.specs.Refusals.{enough};

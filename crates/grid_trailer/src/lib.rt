@@ -1,4 +1,6 @@
 // The last twenty bytes of a grid file, checked on reading, and the six numbers that bytes begin with: document 01, "Grid and grid file".
+#![tactic(auto)]
+
 ghost use Rattle.std.specs.Prelude.{◌≡◌, ◌+◌, ◌≤◌, ◌<◌, length, drop};
 ghost use Rattle.model.specs.Bytes.{word_at, same};
 ghost use Rattle.model.specs.GridFile.{grid_magic, grid_in};

@@ -1,4 +1,6 @@
 // A list of calls, handed over as bytes, those that edit made one after the other on one survey; and a lookup after it, or what is kept.
+#![tactic(auto)]
+
 ghost use Rattle.std.specs.Prelude.{◌≡◌, ◌++◌, ◌+◌, ◌^◌, ◌<◌, ◌≤◌, min, length, take, drop};
 ghost use Rattle.model.specs.Point.{Contents};
 ghost use Rattle.model.specs.Extent.{settled};

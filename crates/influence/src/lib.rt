@@ -1,4 +1,6 @@
 // How a neighbour bears on the mean, and its factor: document 01's pull and strength.
+#![tactic(auto)]
+
 ghost use Rattle.std.specs.Prelude.{◌≡◌, ◌≤◌};
 ghost use Rattle.model.specs.Influence.{inverse, tapered, influence_at};
 ghost use Rattle.model.specs.Computed.{factor_f};

@@ -30,6 +30,8 @@ starts_same : (p : Location) (l m : List Point) → Beside Together l m → star
 unfolding starts_at
 starts_same p [] [] h = refl
 starts_same p (a ∷ l) (b ∷ m) h = rw (h.0.x, h.0.y)
+starts_same p [] (b ∷ m) h = elim h [ ]
+starts_same p (a ∷ l) [] h = elim h [ ]
 
 -- two choices, their points side by side
 pub record Paired (R : Point → Point → Type 0) (c d : Choice) : Type 0 where

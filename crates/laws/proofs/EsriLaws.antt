@@ -9,8 +9,7 @@ use native.Mathlib.Omega.{arith}
 use mathlib.Core.List.{List, [], ◌∷◌, ◌++◌, map, flat_map, append_assoc, map-map}
 use lib.Dec.{ltb, lit<}
 use lib.IntN.{ℤ, pos, negsuc}
-use lib.ListN
-use lib.ListN.{length, take, drop, get_or, length-append, length-take, length-drop}
+use lib.ListN.{length, take, drop, get_or, get_or-map, length-append, length-take, length-drop}
 use lib.Seq.{take-append_seam, take-append-le, length-take-le, get_or-take, get_or-drop}
 use borrow.Author.Tests.{ltb-true, ne_eqb}
 use Rattle.model.specs.Lists.{All}
@@ -188,6 +187,6 @@ pub cell_read : (c : ℕ) (l : List ℤ) (n i r : ℕ) (d : ℤ) → i < c → r
 cell_read c l n i r d h k e =
     let room : c * (r + 1) ≤ c * n = mul-le-mul_left c (omega arith) in
     let long : i < length (take c (drop (c * r) l)) = omega (arith, room, length-take c (drop (c * r) l), length-drop (c * r) l) in
-    ap (λ (m : List (Option Signed)). get_or m i none) (ListN.get_d_map exact_row (rows_down c l n) (n - 1 - r) [] ∙ ap exact_row (down_at c l n r k))
+    ap (λ (m : List (Option Signed)). get_or m i none) (get_or-map exact_row (rows_down c l n) (n - 1 - r) [] ∙ ap exact_row (down_at c l n r k))
     ∙ get_d_map (λ a. some (exact_cell a)) (take c (drop (c * r) l)) i none d long
     ∙ ap (λ (a : ℤ). some (exact_cell a)) (get_or-take c (drop (c * r) l) i d h ∙ get_or-drop (c * r) l i d)

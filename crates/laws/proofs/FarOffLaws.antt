@@ -61,6 +61,8 @@ module _ (s t : State) (alike : Alike s.contents t.contents) (kept : s.extent.ra
   points_same : (l m : List Point) → Beside Shared l m → All (λ a. taken a.x a.y (choice s p).points ≡ true) l → l ≡ m
   points_same [] [] h g = refl
   points_same (a ∷ l) (b ∷ m) h g = rw (point_same a b h.0 g.0, points_same l m h.1 g.1)
+  points_same [] (b ∷ m) h g = elim h [ ]
+  points_same (a ∷ l) [] h g = elim h [ ]
 
   -- the choice, with its values
   choice_same : choice s p ≡ choice t p

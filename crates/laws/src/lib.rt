@@ -1,1 +1,3 @@
 // Laws of the model's definitions, in proofs/. This crate has no code.
+#![tactic(auto)]
+

@@ -1,5 +1,7 @@
 // Lookups that are lent a list for the records of the neighbours. A function that sees a reference to records is proved by a walk along its statements,
 // so these are few, decide nothing, and stand apart from the survey.
+#![tactic(auto)]
+
 ghost use Rattle.std.specs.Prelude.{◌≡◌, ◌++◌, min, length, take, drop};
 ghost use Rattle.model.specs.Point.{location};
 ghost use Rattle.model.specs.Lent.{neighbours_into};

@@ -1,4 +1,6 @@
 // Where a location is, or would go, among the points that arrays hold.
+#![tactic(auto)]
+
 ghost use Rattle.std.specs.Prelude.{◌≡◌, not, List, ℤ, pos};
 ghost use Rattle.model.specs.Point.{point, at, precedes};
 ghost use Rattle.point_arrays.specs.PointArrays.{points_in};

@@ -1,4 +1,6 @@
 // A lookup over lent arrays: its neighbours, the mean of their values by their weights, and the answer in 256ths of a step: document 01, "Pull and mean".
+#![tactic(auto)]
+
 mod value;
 
 ghost use Rattle.std.specs.Prelude.{◌≡◌, ◌^◌, ◌≤◌, pos, ◌+ℤ◌, ◌*ℤ◌, ◌≤ℤ◌};

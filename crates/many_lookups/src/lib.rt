@@ -1,4 +1,6 @@
 // Lookups at a list of locations, from bytes to bytes.
+#![tactic(auto)]
+
 ghost use Rattle.std.specs.Prelude.{◌≡◌, ◌+◌, ◌*◌, ◌/◌, ◌<◌, ◌≤◌, min, length};
 ghost use Rattle.model.specs.Lists.{laid};
 ghost use Rattle.model.specs.Bytes.{word_at};

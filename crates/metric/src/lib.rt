@@ -1,4 +1,6 @@
 // Where a lookup is made from, and how far a point is from there: its squared distance d² and its offsets in x and in y.
+#![tactic(auto)]
+
 ghost use Rattle.std.specs.Prelude.{◌≡◌, ◌%◌};
 ghost use Rattle.model.specs.Distance.{gap as gap_of};
 ghost use Rattle.metric.specs.From.{Proper, squared_from, offset_xFrom, offset_yFrom};

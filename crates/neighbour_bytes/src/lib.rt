@@ -1,4 +1,6 @@
 // Neighbour records as bytes, ten each, for a caller that lends bytes and no records.
+#![tactic(auto)]
+
 ghost use Rattle.std.specs.Prelude.{◌≡◌, ◌*◌, ◌≤◌, length, take};
 ghost use Rattle.model.specs.Lists.{laid};
 ghost use Rattle.neighbour_bytes.specs.Fields.{field_bytes, records_bytes};

@@ -1,4 +1,6 @@
 // Neighbour records: what a lookup gives of each chosen point beside its answer.
+#![tactic(auto)]
+
 ghost use Rattle.std.specs.Prelude.{◌≡◌, ◌≤◌, length, take};
 ghost use Rattle.model.specs.Lists.{laid};
 ghost use Rattle.model.specs.Point.{Location, State};

@@ -23,7 +23,7 @@ fn coincident(b: Candidates) -> bool
 }
 
 // Rules 2 to 5, for a lookup where no point is at the location. m points are present, k of them within R0; R is D of the first point left out, or R0, or 0 where four or fewer are present.
-pub(crate) fn by_count_lem(b: Candidates, m: usize, k: u32, r0: u32) -> Selection
+pub(crate) fn by_count(b: Candidates, m: usize, k: u32, r0: u32) -> Selection
     ensures count_bound { result.count ≤ 10 }
     ensures selects { (s : State) (p : Location) → HoldsEnough s p k b → m ≡ length s.contents.points → r0 ≡ s.extent.radius → Selects s p (choice_apart s p) b result }
 {
@@ -65,7 +65,7 @@ pub(crate) fn selected(b: Candidates, m: usize, k: u32, r0: u32) -> Selection
             radius: 0,
         };
     }
-    by_count_lem(b, m, k, r0)
+    by_count(b, m, k, r0)
 }
 
 fn seen_from(v: Viewpoint, e: Candidate) -> Neighbour

@@ -1,4 +1,6 @@
 // Which points a lookup goes by: document 01, "Who is chosen", over lent arrays and a count.
+#![tactic(auto)]
+
 mod choice;
 
 ghost use Rattle.std.specs.Prelude.{◌≡◌, ℕ, ◌≤◌, length};
@@ -128,6 +130,6 @@ pub fn choose_apart<'a>(
 {
     let m = point_arrays::clamped(n);
     let b = nearest_points(xs, ys, zs, n, v, r0);
-    let t = choice::by_count_lem(b.first, m, b.within, r0);
+    let t = choice::by_count(b.first, m, b.within, r0);
     choice::filled(v, b.first, t, m)
 }

@@ -1,4 +1,6 @@
 // Whole numbers: words of bytes, high byte first, two's complement, bytes compared and summed up, differences and sizes, and the lesser and the greater of two values.
+#![tactic(auto)]
+
 ghost use Rattle.std.specs.Prelude.{◌≡◌, ◌+◌, ◌^◌, ◌<◌, ◌≤◌, nat_abs, length};
 ghost use Rattle.model.specs.Bytes.{word_at, long_at, complement, signed, same as same_as, total as total_of};
 ghost use Rattle.model.specs.Distance.{gap as gap_of};

@@ -1,4 +1,6 @@
 // Points held as an array of x, one of y, one of z and a count, and how such arrays are read, whatever they hold.
+#![tactic(auto)]
+
 ghost use Rattle.std.specs.Prelude.{◌≡◌, ◌%◌, ◌<◌, min};
 
 // A coordinate as it is read: modulo 4,096.

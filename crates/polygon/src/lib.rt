@@ -1,4 +1,6 @@
 // Twice the area of the convex polygon around points, over lent arrays and a count: document 02, §4.
+#![tactic(auto)]
+
 ghost use Rattle.std.specs.Prelude.{◌≡◌, [], ◌*◌, ◌≤◌};
 ghost use Rattle.model.specs.Point.{location};
 ghost use Rattle.model.specs.Polygon.{trim, extend, enclosed};

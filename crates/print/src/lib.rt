@@ -1,4 +1,6 @@
 // Text to standard output: words, numbers in decimal, bytes in hexadecimal; and a word on standard error where a write or a read failed.
+#![tactic(auto)]
+
 ghost use Rattle.std.specs.Prelude.{◌≤◌, length};
 
 use libc::{STDERR_FILENO, STDIN_FILENO, STDOUT_FILENO};

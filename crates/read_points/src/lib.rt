@@ -1,4 +1,6 @@
 // The points of a survey file's records, from bytes to arrays: refusals 14 and 15.
+#![tactic(auto)]
+
 ghost use Rattle.std.specs.Prelude.{◌≡◌, ◌*◌, ◌≤◌, length};
 ghost use Rattle.model.specs.SurveyFile.{points_of, fault};
 ghost use Rattle.point_arrays.specs.PointArrays.{held};

@@ -1,4 +1,6 @@
 // Why a call on the points that arrays hold is refused: document 01, "The bench", and 8 of a lookup lent too few neighbour records. The first number that applies, or 0.
+#![tactic(auto)]
+
 ghost use Rattle.std.specs.Prelude.{◌≡◌, List, min, ℤ, length};
 ghost use Rattle.model.specs.Point.{State, in_domain, in_range};
 ghost use Rattle.model.specs.Refusals.{on_domain, within_range, lookup_refusal, neighbours_refusal};

@@ -1,4 +1,6 @@
 // Whole square roots one bit at a time, a distance D by them, and which squared distances are within a radius: document 01, "Distance". Nothing here divides, and no float is used: `.ci/root_code.py`.
+#![tactic(auto)]
+
 mod radius;
 
 ghost use Rattle.std.specs.Prelude.{◌≡◌, ℕ, ◌+◌, ◌<◌, ◌≤◌, ◌^◌, cond, leb, ltb, get_or};

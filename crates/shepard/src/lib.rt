@@ -1,6 +1,8 @@
 // The library for C and Rust. Its state is the bytes of a survey file: a function reads the file, makes one call and writes what comes of it. Two read a grid file.
 // In C a slice is two parameters, an address and a length. What is lent to be written overlaps nothing else that is handed over.
 // A static library has the functions of its own crate alone, so each call is handed on here to the crate that makes it.
+#![tactic(auto)]
+
 ghost use Rattle.std.specs.Prelude.{◌≡◌, ◌/◌, length};
 ghost use Rattle.model.specs.Lists.{laid};
 ghost use Rattle.model.specs.Point.{location};

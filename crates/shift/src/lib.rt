@@ -1,4 +1,6 @@
 // An element put into an array, and one taken out: the elements from there on move by one.
+#![tactic(auto)]
+
 ghost use Rattle.std.specs.Prelude.{◌≡◌, ◌++◌, ◌∷◌, ◌+◌, take, drop};
 
 // The last element is lost.

@@ -1,4 +1,6 @@
 // Squared distances d² of all points from a location, and which points are within a limit: the first of them in order are the first of all.
+#![tactic(auto)]
+
 mod guess;
 mod limit;
 

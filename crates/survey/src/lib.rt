@@ -1,4 +1,6 @@
 // The survey: at most 256 points, ascending by x, then y. What is kept of them stands beside them. A call takes the survey by value; one that edits gives it back beside the refusal's number.
+#![tactic(auto)]
+
 mod edits;
 
 ghost use Rattle.std.specs.Prelude.{◌≡◌, ◌≤◌, length};

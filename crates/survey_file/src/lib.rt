@@ -1,4 +1,6 @@
 // The survey file: from bytes to arrays of points, by the trailer at the end, and back.
+#![tactic(auto)]
+
 ghost use Rattle.std.specs.Prelude.{◌≡◌, length};
 ghost use Rattle.model.specs.SurveyFile.{written_into};
 ghost use Rattle.point_arrays.specs.PointArrays.{points_in};

@@ -1,4 +1,6 @@
 // The trailer: the last twelve bytes of every survey file, checked on reading and made for writing.
+#![tactic(auto)]
+
 ghost use Rattle.std.specs.Prelude.{◌≡◌, ◌++◌, ◌+◌, ◌*◌, ◌≤◌, length, drop};
 ghost use Rattle.model.specs.Bytes.{bytes2, bytes4, same};
 ghost use Rattle.model.specs.SurveyFile.{magic, trailer_check};

@@ -1,4 +1,6 @@
 // The mean of numbers by weights, from two running sums: document 01, "Pull and mean". What the numbers are is the caller's.
+#![tactic(auto)]
+
 ghost use Rattle.std.specs.Prelude.{◌≡◌, ◌^◌, ◌≤◌, get_or};
 ghost use Rattle.std.specs.Float.{binary64, nan};
 ghost use Rattle.std.specs.Float.Ieee.{add, mul, div};

@@ -1,4 +1,6 @@
 // Factors and weights of the neighbours of a lookup, in 64-bit floats: document 01, "Pull and mean". No value stands in a weight.
+#![tactic(auto)]
+
 mod directional;
 mod factor;
 

@@ -1,4 +1,6 @@
 // Survey files as wholes, from bytes to bytes: made, counted and written anew.
+#![tactic(auto)]
+
 ghost use Rattle.model.specs.SurveyFile.{file_refusal, file_points};
 ghost use Rattle.model.specs.Calls.{fresh as fresh_contents};
 ghost use Rattle.file_access.specs.Access.{Writes};

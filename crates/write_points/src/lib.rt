@@ -1,4 +1,6 @@
 // The bytes of a survey file's records, from points held in arrays.
+#![tactic(auto)]
+
 ghost use Rattle.std.specs.Prelude.{◌≡◌, map, ◌*◌, ◌≤◌, length};
 ghost use Rattle.model.specs.SurveyFile.{record_bytes, records};
 ghost use Rattle.point_arrays.specs.PointArrays.{held, wrapped};
