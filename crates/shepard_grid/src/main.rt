@@ -1,17 +1,19 @@
 // Reads a survey file whose preamble begins with a grid's six numbers from standard input, and writes the grid file, or why there is none.
 #![tactic(auto)]
+#![tactic(auto)]
 
 use grid_program::Output;
-use libc::STDIN_FILENO;
+use print::Streams;
 
-fn main() {
+fn main(rt: HostRuntime) {
+    let mut io = Streams::new(&rt);
     let mut input = grid_io::room();
-    let n = io::read_full(STDIN_FILENO, &mut input);
-    if n < input.len() && !print::input_ended() {
+    let n = print::fill(&mut io, &mut input);
+    if n < input.len() && !print::input_ended(&mut io) {
         return;
     }
     let o: Output = grid_program::run(&input[..n]);
     let bytes = o.bytes;
     let length = o.length;
-    print::word(&bytes[..length]);
+    print::word(&mut io, &bytes[..length]);
 }
