@@ -1,6 +1,5 @@
 // Reads a survey file whose preamble begins with a grid's six numbers from standard input, and writes the Esri ASCII grid, or why there is none.
 #![tactic(auto)]
-#![tactic(auto)]
 
 use esri_program::Output;
 use print::Streams;

@@ -1,6 +1,5 @@
 // Reads a survey file whose preamble begins with a grid's six numbers from standard input, and writes the grid file, or why there is none.
 #![tactic(auto)]
-#![tactic(auto)]
 
 use grid_program::Output;
 use print::Streams;

@@ -1,6 +1,5 @@
 // Runs a journal of calls from standard input on one survey, fresh at the start, with no grid begun. A line answers each call, and a second one shows what was lent to it; what is no call is answered by `bad journal`, and ends the run.
 #![tactic(auto)]
-#![tactic(auto)]
 
 mod edits;
 mod files;
