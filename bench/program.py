@@ -186,16 +186,21 @@ class Writer:
         return f'(fn-def "{name}" (fnItem 0 lnil {self.function["params"]} {locals_} {body}))'
 
 
-def below(crate: str, root: Path) -> list[str]:
-    """The crate and the libraries that it stands on, as crates.txt has them."""
-    uses = {}
+def uses(root: Path) -> dict[str, list[str]]:
+    """The crates of crates.txt, each with the libraries that it uses."""
+    found = {}
     for line in (root / "crates.txt").read_text(encoding="utf-8").splitlines():
         name, colon, others = line.partition("#")[0].partition(":")
         if colon:
-            uses[name.split()[0]] = others.split()
-    found = [crate]
+            found[name.split()[0]] = others.split()
+    return found
+
+
+def below(crate: str, root: Path) -> list[str]:
+    """The crate and the libraries that it stands on."""
+    listed, found = uses(root), [crate]
     for each in found:
-        found += [other for other in uses[each] if other not in found]
+        found += [other for other in listed[each] if other not in found]
     return found
 
 

@@ -3,6 +3,7 @@
 from __future__ import annotations
 
 import sys
+import tempfile
 import unittest
 from pathlib import Path
 from typing import Any
@@ -108,11 +109,11 @@ class Written(unittest.TestCase):
 
 
 class Below(unittest.TestCase):
-    def test_this_repository(self) -> None:
-        found = program.below("candidates", program.ROOT)
-        self.assertEqual(found[0], "candidates")
-        self.assertIn("root", found)
-        self.assertEqual(len(found), len(set(found)))
+    def test_libraries_once(self) -> None:
+        with tempfile.TemporaryDirectory() as folder:
+            lines = "# What is built on what.\nlow:\nmiddle: low\nbeside: low\nface staticlib: beside middle\nother: low\n"
+            (Path(folder) / "crates.txt").write_text(lines)
+            self.assertEqual(program.below("face", Path(folder)), ["face", "beside", "middle", "low"])
 
 
 if __name__ == "__main__":
