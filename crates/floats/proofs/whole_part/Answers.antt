@@ -9,12 +9,9 @@ use borrow.Author.Tests.{leb-true, leb-false, not-true, not-false}
 use lib.Dec.{leb}
 use lib.Ieee.{Float}
 use lib.Ieee.Positive.{num, den}
-use Rattle.floats.proofs.whole_part.Reads as reads
-use Rattle.floats.proofs.whole_part.Lts as lts
-use Rattle.floats.proofs.at_most.Reads as at-most-reads
-use Rattle.floats.proofs.guess.Reads as guess-reads
 use Rattle.floats.proofs.whole_part.Invariants.{whole}
 use Rattle.floats.proofs.whole_part.Goals as goal
+use Rattle.floats.proofs.whole_part.Goals.{then-at_most+else-not-at_most, else-at_most}
 
 module _ (y : Float) (small : num y < 4194304 * den y) where
   some : 0 < den y
@@ -33,17 +30,16 @@ module _ (y : Float) (small : num y < 4194304 * den y) where
 abbrev Narrower : ℕ → ℕ → ℕ → ℕ → ℕ → Type 0
 Narrower q low high low' high' = (low' ≤ q) × (q < high') × (high' ≤ high) × (high' - low' < high - low)
 
-narrowed : (c : lts.After-row-known2 (guess-reads.Asked, guess-reads.Learnt, at-most-reads.Asked, at-most-reads.Learnt) reads.Pre reads.Post invariant-loop decreases-loop)
+narrowed : (c : goal.After-row_known-in-loop-low-1)
     → Narrower (whole c.args.y) c.loop-low.low c.loop-low.high
     c.if-at_most.low c.if-at_most.high
 narrowed c =
-    let l = c in
-    let y = l.args.y in
-    let small = l.requires.1 in
-    ⊎_elim
-    (λ w. let g = whole_above y small (l.loop-low.k + 1) (sym w.1.ensures ∙ not-false _ w.2.left) in omega arith)
-    (λ w. let g = whole_below y small l.loop-low.k (sym c.at_most.ensures ∙ w.0.left) in omega arith)
-    c.if-at_most.branch
+    let y = c.args.y in
+    let small = c.requires.1 in
+    elim c.if-at_most.branch [
+      then-at_most+else-not-at_most w ↦ let g = whole_above y small (c.loop-low.k + 1) (sym w.at_most-then-at_most.ensures ∙ w.if-not-at_most.false) in omega arith
+    | else-at_most w ↦ let g = whole_below y small c.loop-low.k (sym c.at_most.ensures ∙ w.if-at_most.false) in omega arith
+    ]
 
 pub loop-low-init : goal.loop-low-init
 loop-low-init c = let g = whole_small c.args.y c.requires.1 in omega arith
@@ -68,9 +64,8 @@ loop-low-preserved c = let g = narrowed c in omega arith
 
 pub returns : goal.returns
 returns c =
-    let l = c in
-    let y = l.args.y in
-    let small = l.requires.1 in
-    let low = whole_above y small l.loop-low.k (sym c.at_most.ensures ∙ c.if-at_most.true) in
-    let high = whole_below y small (l.loop-low.k + 1) (sym c.at_most-then-at_most.ensures ∙ not-true _ c.if-not-at_most.true) in
+    let y = c.args.y in
+    let small = c.requires.1 in
+    let low = whole_above y small c.loop-low.k (sym c.at_most.ensures ∙ c.if-at_most.true) in
+    let high = whole_below y small (c.loop-low.k + 1) (sym c.at_most-then-at_most.ensures ∙ c.if-not-at_most.true) in
     omega (arith, whole_small y small)

@@ -4,7 +4,7 @@ use lib.Ieee.{Float}
 use lib.Ieee.Positive.{num, den}
 use Rattle.floats.proofs.whole_part.Given as goal
 
-abbrev whole : Float → ℕ
+abbrev pub whole : Float → ℕ
 whole y = num y / den y
 
 abbrev pub invariant-loop-low : goal.invariant-loop-low

@@ -1,0 +1,32 @@
+-- `hexadecimal` meets its contract. The invariant: the digits of the first i bytes stand at the front of what was lent.
+use mathlib.Core.Path.{refl}
+use mathlib.Core.List.{flat_map}
+use Prim.Native.Nat.{◌*◌, ◌-◌}
+use native.Mathlib.Omega.{arith}
+use lib.ListN.{length}
+use lib.Seq.{take_all}
+use Rattle.model.specs.Lists.{laid}
+use Rattle.laws.proofs.Stores.{laid_more}
+use Rattle.digits.specs.Hexadecimal.{hex_pair, hexadecimal}
+use Rattle.digits.proofs.hexadecimal.Goals as goal
+
+pub loop-i-init : goal.loop-i-init
+unfolding flat_map
+loop-i-init c = (omega arith, refl, refl)
+
+pub loop-i-preserved : goal.loop-i-preserved
+loop-i-preserved c =
+    let q = c in
+    let r = q in
+    let l = r.loop-i in
+    let a = r.args in
+    let i = l.i in
+    let e = laid_more hex_pair 2 (λ _. refl) a.s.now 0 i (length l.out - 2 * i) a.out.now l.out (omega arith) (omega arith) l.invariant.2 in
+    (omega arith, omega arith, rw (q.copy.ensures.laid, r.hex_pair-b.ensures) e)
+
+pub returns : goal.returns
+unfolding hexadecimal
+returns c =
+    let l = c.loop-i in
+    let s = c.args.s.now in
+    rw (take_all l.i s (omega arith)) at l.invariant.2
