@@ -10,25 +10,15 @@ use Rattle.influence.specs.Carried.{kind_of}
 use Rattle.influence.proofs.InfluenceLaws.{kind_carried}
 use Rattle.neighbour_records.specs.declared.Record.{Record}
 use Rattle.neighbour_records.specs.Records.{item_record}
-use Rattle.neighbour_records.proofs.item_record.Statement.{statement}
-use Rattle.neighbour_records.proofs.item_record.Tie as tie
+use Rattle.neighbour_records.proofs.item_record.Goals as goal
 
 made : (few : Bool) (r : ℕ) (a : Neighbour) (z : ℤ) (k : ℕ) → z ≡ a.z → k ≡ kind (influence_at few r a.distance)
     → ◌≡◌ {A = Record} (record { x = a.x; y = a.y; z = z; distance = a.distance; kind = k }) (item_record few r a)
 unfolding item_record
 made few r a z k e f = rw (e, f)
 
-influence-at-requires : tie.Need-influence-at-requires
-influence-at-requires c κs = search rules
-
-kind-of-requires : tie.Need-kind-of-requires
-kind-of-requires c κs = search rules
-
-returns : tie.Need-returns
+pub returns : goal.returns
 returns c =
-    let a = c.before.before.before.args in
+    let a = c.args in
     made a.few a.radius a.a _ _ (search rules)
-    (c.before.kind-of.ensures ∙ ap kind_of c.before.before.influence-at.ensures ∙ kind_carried (influence_at a.few a.radius a.a.distance))
-
-pub item_record_spec : {M : Type 1} → statement M
-item_record_spec = tie.close (tie.spec influence-at-requires kind-of-requires returns)
+    (c.kind_of.ensures ∙ ap kind_of c.influence_at.ensures ∙ kind_carried (influence_at a.few a.radius a.a.distance))
