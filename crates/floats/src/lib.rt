@@ -1,4 +1,6 @@
 // Floats that are not negative against whole numbers: a whole number as a float, and the whole part of a float found by comparing.
+#![tactic(auto)]
+
 ghost use Rattle.std.specs.Prelude.{◌≡◌, ◌*◌, ◌/◌, ◌^◌, ◌<◌, ◌≤◌, T, leb};
 ghost use Rattle.std.specs.Float.Ieee.Positive.{num, den};
 ghost use Rattle.model.specs.Computed.{float};

@@ -1,6 +1,6 @@
 -- `put_rows` meets its contract. The invariant: the lines of the rows from r on are written, and those of the first r rows are left.
 use mathlib.Core.Path.{◌≡◌, refl, ap, ◌∙◌}
-use Prim.Native.Nat.{ℕ, ◌+◌, ◌-◌, ◌*◌}
+use Prim.Native.Nat.{◌+◌, ◌-◌, ◌*◌}
 use native.Mathlib.Omega.{arith}
 use lib.ListN.{length, length-take, length-drop}
 use Rattle.laws.proofs.Stores.{laid_whole}
@@ -16,64 +16,64 @@ loop-r-init c = (omega arith, refl, none_written)
 pub overflow_mul-first : goal.overflow_mul-first
 overflow_mul-first c =
     let t : Turn (grid_of c.args.g) c.args.values.now c.args.out.now c.loop-r.r c.loop-r.at c.loop-r.out =
-        record { all = c.requires.0; room = c.requires.1; some = omega arith; few = c.loop-r.invariant.0; size = c.loop-r.invariant.1; written = c.loop-r.invariant.2 } in
+    record { all = c.requires.0; room = c.requires.1; some = omega arith; few = c.loop-r.invariant.0; size = c.loop-r.invariant.1; written = c.loop-r.invariant.2 } in
     omega (arith, (row_there t).0, (row_there t).1)
 
 pub overflow_add-end : goal.overflow_add-end
 overflow_add-end c =
     let t : Turn (grid_of c.args.g) c.args.values.now c.args.out.now c.loop-r.r c.loop-r.at c.loop-r.out =
-        record { all = c.requires.0; room = c.requires.1; some = omega arith; few = c.loop-r.invariant.0; size = c.loop-r.invariant.1; written = c.loop-r.invariant.2 } in
+    record { all = c.requires.0; room = c.requires.1; some = omega arith; few = c.loop-r.invariant.0; size = c.loop-r.invariant.1; written = c.loop-r.invariant.2 } in
     omega (arith, (row_there t).0, (row_there t).1)
 
 pub offset_bounds-values-first : goal.offset_bounds-values-first
 offset_bounds-values-first c =
     let t : Turn (grid_of c.args.g) c.args.values.now c.args.out.now c.loop-r.r c.loop-r.at c.loop-r.out =
-        record { all = c.requires.0; room = c.requires.1; some = omega arith; few = c.loop-r.invariant.0; size = c.loop-r.invariant.1; written = c.loop-r.invariant.2 } in
+    record { all = c.requires.0; room = c.requires.1; some = omega arith; few = c.loop-r.invariant.0; size = c.loop-r.invariant.1; written = c.loop-r.invariant.2 } in
     omega (arith, (row_there t).0, (row_there t).1)
 
 pub slice_bounds-put_row-end : goal.slice_bounds-put_row-end
 slice_bounds-put_row-end c =
     let t : Turn (grid_of c.args.g) c.args.values.now c.args.out.now c.loop-r.r c.loop-r.at c.loop-r.out =
-        record { all = c.requires.0; room = c.requires.1; some = omega arith; few = c.loop-r.invariant.0; size = c.loop-r.invariant.1; written = c.loop-r.invariant.2 } in
+    record { all = c.requires.0; room = c.requires.1; some = omega arith; few = c.loop-r.invariant.0; size = c.loop-r.invariant.1; written = c.loop-r.invariant.2 } in
     omega (arith, (row_there t).0)
 
 pub slice_bounds-put_row-count-in-loop-r : goal.slice_bounds-put_row-count-in-loop-r
 slice_bounds-put_row-count-in-loop-r c =
     let t : Turn (grid_of c.args.g) c.args.values.now c.args.out.now c.loop-r.r c.loop-r.at c.loop-r.out =
-        record { all = c.requires.0; room = c.requires.1; some = omega arith; few = c.loop-r.invariant.0; size = c.loop-r.invariant.1; written = c.loop-r.invariant.2 } in
+    record { all = c.requires.0; room = c.requires.1; some = omega arith; few = c.loop-r.invariant.0; size = c.loop-r.invariant.1; written = c.loop-r.invariant.2 } in
     omega (arith, row_room t)
 
 pub slice_bounds-put_row-start-in-loop-r : goal.slice_bounds-put_row-start-in-loop-r
 slice_bounds-put_row-start-in-loop-r c =
     let t : Turn (grid_of c.args.g) c.args.values.now c.args.out.now c.loop-r.r c.loop-r.at c.loop-r.out =
-        record { all = c.requires.0; room = c.requires.1; some = omega arith; few = c.loop-r.invariant.0; size = c.loop-r.invariant.1; written = c.loop-r.invariant.2 } in
+    record { all = c.requires.0; room = c.requires.1; some = omega arith; few = c.loop-r.invariant.0; size = c.loop-r.invariant.1; written = c.loop-r.invariant.2 } in
     omega (arith, row_room t)
 
 pub slice_bounds-put_row-end-in-loop-r : goal.slice_bounds-put_row-end-in-loop-r
 slice_bounds-put_row-end-in-loop-r c =
     let t : Turn (grid_of c.args.g) c.args.values.now c.args.out.now c.loop-r.r c.loop-r.at c.loop-r.out =
-        record { all = c.requires.0; room = c.requires.1; some = omega arith; few = c.loop-r.invariant.0; size = c.loop-r.invariant.1; written = c.loop-r.invariant.2 } in
+    record { all = c.requires.0; room = c.requires.1; some = omega arith; few = c.loop-r.invariant.0; size = c.loop-r.invariant.1; written = c.loop-r.invariant.2 } in
     omega (arith, row_room t)
 
 pub put_row-k-requires : goal.put_row-k-requires
 put_row-k-requires c =
     let one : c.args.g.columns * (c.loop-r.r - 1) + c.args.g.columns - c.args.g.columns * (c.loop-r.r - 1) ≡ c.args.g.columns = omega arith in
     let t : Turn (grid_of c.args.g) c.args.values.now c.args.out.now c.loop-r.r c.loop-r.at c.loop-r.out =
-        record { all = c.requires.0; room = c.requires.1; some = omega arith; few = c.loop-r.invariant.0; size = c.loop-r.invariant.1; written = c.loop-r.invariant.2 } in
+    record { all = c.requires.0; room = c.requires.1; some = omega arith; few = c.loop-r.invariant.0; size = c.loop-r.invariant.1; written = c.loop-r.invariant.2 } in
     rw one (row_some t, simp (length-take, length-drop) (omega (arith, row_room t)))
 
 pub overflow_add-at : goal.overflow_add-at
 overflow_add-at c =
     let one : c.args.g.columns * (c.loop-r.r - 1) + c.args.g.columns - c.args.g.columns * (c.loop-r.r - 1) ≡ c.args.g.columns = omega arith in
     let t : Turn (grid_of c.args.g) c.args.values.now c.args.out.now c.loop-r.r c.loop-r.at c.loop-r.out =
-        record { all = c.requires.0; room = c.requires.1; some = omega arith; few = c.loop-r.invariant.0; size = c.loop-r.invariant.1; written = c.loop-r.invariant.2 } in
+    record { all = c.requires.0; room = c.requires.1; some = omega arith; few = c.loop-r.invariant.0; size = c.loop-r.invariant.1; written = c.loop-r.invariant.2 } in
     let e = rw one at c.put_row-k.ensures.value in
     omega (arith, row_room t, e)
 
 pub loop-r-preserved : goal.loop-r-preserved
 loop-r-preserved c =
     let t : Turn (grid_of c.args.g) c.args.values.now c.args.out.now c.loop-r.r c.loop-r.at c.loop-r.out =
-        record { all = c.requires.0; room = c.requires.1; some = omega arith; few = c.loop-r.invariant.0; size = c.loop-r.invariant.1; written = c.loop-r.invariant.2 } in
+    record { all = c.requires.0; room = c.requires.1; some = omega arith; few = c.loop-r.invariant.0; size = c.loop-r.invariant.1; written = c.loop-r.invariant.2 } in
     let l = c.loop-r in
     let p = c.put_row-k in
     let one : c.args.g.columns * (c.loop-r.r - 1) + c.args.g.columns - c.args.g.columns * (c.loop-r.r - 1) ≡ c.args.g.columns = omega arith in

@@ -1,6 +1,6 @@
 -- `put_rows` meets its contract. The invariant: the lines of the rows from r on are written, and those of the first r rows are left.
 use mathlib.Core.Path.{◌≡◌}
-use Prim.Native.Nat.{◌-◌, ◌≤◌}
+use Prim.Native.Nat.{◌≤◌}
 use lib.ListN.{length}
 use Rattle.laws.proofs.Writing.{Writing}
 use Rattle.esri_text.proofs.Rows.{left_rows}

@@ -1,11 +1,10 @@
 -- `whole_part` meets its contract. The invariant: the whole part lies from `low` up to, and not at, `high`, and so does the number that is tried. The measure is their distance.
 use mathlib.Core.Path.{◌≡◌, sym, ◌∙◌}
-use mathlib.Core.Logic.{⊎_elim}
 use mathlib.Core.Bool.{true, false}
 use Prim.Native.Nat.{ℕ, ◌+◌, ◌-◌, ◌*◌, ◌≤◌, ◌<◌}
 use native.Mathlib.Nat.{le-div_iff_mul-le, div-lt_iff_lt-mul}
 use native.Mathlib.Omega.{arith}
-use borrow.Author.Tests.{leb-true, leb-false, not-true, not-false}
+use borrow.Author.Tests.{leb-true, leb-false}
 use lib.Dec.{leb}
 use lib.Ieee.{Float}
 use lib.Ieee.Positive.{num, den}
@@ -37,8 +36,8 @@ narrowed c =
     let y = c.args.y in
     let small = c.requires.1 in
     elim c.if-at_most.branch [
-      then-at_most+else-not-at_most w ↦ let g = whole_above y small (c.loop-low.k + 1) (sym w.at_most-then-at_most.ensures ∙ w.if-not-at_most.false) in omega arith
-    | else-at_most w ↦ let g = whole_below y small c.loop-low.k (sym c.at_most.ensures ∙ w.if-at_most.false) in omega arith
+      | then-at_most+else-not-at_most w ↦ let g = whole_above y small (c.loop-low.k + 1) (sym w.at_most-then-at_most.ensures ∙ w.if-not-at_most.false) in omega arith
+      | else-at_most w ↦ let g = whole_below y small c.loop-low.k (sym c.at_most.ensures ∙ w.if-at_most.false) in omega arith
     ]
 
 pub loop-low-init : goal.loop-low-init

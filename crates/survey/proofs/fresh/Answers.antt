@@ -4,17 +4,10 @@ use Rattle.model.specs.Lists.{tabulate}
 use Rattle.point_arrays.specs.PointArrays.{held, points_in}
 use Rattle.survey.specs.StateOf.{contents_in}
 use Rattle.survey.proofs.Becoming.{settles}
-use Rattle.survey.proofs.fresh.Statement.{statement}
-use Rattle.survey.proofs.fresh.Tie as tie
+use Rattle.survey.proofs.fresh.Goals as goal
 
-zeros-requires : tie.Need-zeros-requires
-zeros-requires c κs = tt
-
-returns : tie.Need-returns
+pub returns : goal.returns
 unfolding contents_in points_in held tabulate
 returns c =
     let s = settles (record { x = _; y = _; z = _; count = 0; extent = c.zeros.result }) c.zeros.result c.zeros.ensures.0 c.zeros.ensures.1 in
     (s.state, s.plain refl)
-
-pub fresh_spec : {M : Type 1} → statement M
-fresh_spec = tie.close (tie.spec zeros-requires returns)
