@@ -1,4 +1,3 @@
--- As many as are needed are within the higher limit, and the tries fall.
 use native.Mathlib.Omega.{arith}
 use Rattle.squares.proofs.limit.sought.Goals as goal
 use Rattle.squares.proofs.limit.sought.Goals.{then-k-need, else-k-need+else-k-le16}

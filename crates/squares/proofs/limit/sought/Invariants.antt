@@ -1,4 +1,4 @@
--- `sought` meets its contract. The invariant: as many as are needed are within the higher limit. The tries fall.
+-- The invariant: as many as are needed are within the higher limit. The tries fall.
 use Prim.Native.Nat.{◌≤◌}
 use Rattle.squares.specs.Squares.{count_within}
 use Rattle.squares.proofs.limit.sought.Given as goal
