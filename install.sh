@@ -3,7 +3,8 @@
 #
 #   bash install.sh PREFIX    such as /usr/local or "$HOME/.local"
 #
-# DESTDIR, where it is set, is put before every path that is written. Nothing is installed unless everything was built.
+# DESTDIR, where it is set, is put before every path that is written. Nothing is installed unless everything was built. With SHEPARD_BUILT=1 the programs
+# and the library are those that stand in target/bin and target/staticlib.
 set -eu
 
 if [ $# -ne 1 ] || [ -z "$1" ] || [ "${1#-}" != "$1" ]; then
@@ -23,8 +24,7 @@ for needed in rt cargo gcc; do
 done
 [ "$missing" -eq 0 ] || exit 1
 
-rt check shepard_grid shepard_esri shepard_replay
-rt staticlib shepard
+[ "${SHEPARD_BUILT:-}" = 1 ] || bash build.sh
 (cd rust && SHEPARD_LIB_DIR=$PWD/../target/staticlib cargo build --release --offline --locked --target-dir ../target/rust)
 gcc -shared -o target/libshepard.so -Wl,--whole-archive target/staticlib/libshepard.a -Wl,--no-whole-archive
 

@@ -10,7 +10,8 @@ import pathlib
 import re
 import sys
 
-KIT = ('bytes', 'check', 'io', 'libc', 'os')
+# the static libraries, which no crate uses
+STATIC = ('shepard', 'root_c')
 LIST = pathlib.Path('crates.txt')
 HEAD = '# A crate and what it is built on, under the headings and in the order of README.md; made by .ci/crate_list.py.\n'
 
@@ -28,12 +29,20 @@ def table() -> list[tuple[str, list[str]]]:
     return headings
 
 
+def taken(text: str, public: bool) -> list[tuple[str, str]]:
+    """The items that `use` or `pub use` lines take, alone or in braces, each behind its library; where public, of `pub use` alone."""
+    items = []
+    for owner, alone, several in re.findall(rf'^{"pub " if public else "(?:pub )?"}use (\w+)::(?:(\w+)|\{{([\w\s,]*)\}});', text, re.M):
+        items += [(owner, item) for item in ([alone] if alone else re.findall(r'\w+', several))]
+    return items
+
+
 def passed_on() -> dict[str, str]:
     """What libraries pass on by `pub use`: `survey::Record` is of `neighbour_records`."""
     items: dict[str, str] = {}
     for source in pathlib.Path('crates').glob('*/src/lib.rt'):
-        for found in re.finditer(r'^pub use (\w+)::(\w+);', source.read_text(encoding='utf-8'), re.M):
-            items[f'{source.parts[1]}::{found[2]}'] = found[1]
+        for owner, item in taken(source.read_text(encoding='utf-8'), public=True):
+            items[f'{source.parts[1]}::{item}'] = owner
     return items
 
 
@@ -42,7 +51,7 @@ def held() -> dict[str, set[str]]:
     structs: dict[str, set[str]] = {}
     for source in pathlib.Path('crates').glob('*/src/lib.rt'):
         crate, text = source.parts[1], source.read_text(encoding='utf-8')
-        owners = {item: owner for owner, item in re.findall(r'^(?:pub )?use (\w+)::(\w+);', text, re.M)}
+        owners = {item: owner for owner, item in taken(text, public=False)}
         for name, fields in re.findall(r'^pub struct (\w+) \{(.*?)^\}', text, re.M | re.S):
             types = re.findall(r': (\w+),', fields)
             structs[f'{crate}::{name}'] = {f'{owners.get(kind, crate)}::{kind}' for kind in types}
@@ -68,24 +77,25 @@ def uses(crate: str, others: list[str]) -> list[str]:
     text = '\n'.join(p.read_text(encoding='utf-8') for p in files)
     code = '\n'.join(p.read_text(encoding='utf-8') for p in files if p.suffix == '.rt')
 
-    taken = reached(crate) | {owner for item, owner in passed_on().items() if re.search(rf'(?<![\w:]){item}\b', code)}
+    used = {f'{owner}::{item}' for owner, item in taken(code, public=False)}
+    held_or_taken = reached(crate) | {owner for item, owner in passed_on().items() if item in used or re.search(rf'(?<![\w:]){item}\b', code)}
 
     def named(other: str) -> bool:
-        in_proofs = re.search(rf'Rattle·{other}\.', text)
+        in_proofs = re.search(rf'Rattle\.{other}\.', text)
         in_code = re.search(rf'(?<![\w:]){other}::', code)
-        return bool(in_proofs or in_code or other in taken)
+        return bool(in_proofs or in_code or other in held_or_taken)
 
     return [other for other in others if other != crate and named(other)]
 
 
 def made() -> str:
-    """What crates.txt has to say."""
+    """What crates.txt has to say; the standard library is every crate's, and never listed."""
     headings = table()
     every = [crate for _, crates in headings for crate in crates]
     lines = [HEAD]
     for heading, crates in headings:
         lines.append(f'\n# {heading}\n')
-        lines += [f'{crate}: {" ".join(uses(crate, [*every, *KIT]))}'.rstrip() + '\n' for crate in crates]
+        lines += [f'{crate}{" staticlib" if crate in STATIC else ""}: {" ".join(uses(crate, every))}'.rstrip() + '\n' for crate in crates]
     return ''.join(lines)
 
 

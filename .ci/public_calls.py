@@ -12,7 +12,7 @@ from collections.abc import Iterator
 FACE = """
     survey_file survey lending history grid grid_reading grid_rows esri grid_history grid_program
     esri_program many_lookups whole_files file_edits file_lookups file_neighbours file_grids
-    grid_files shepard
+    grid_files shepard root_c
 """
 BELOW = """
     model laws numbers relative_error floats root digits point_arrays shift locate polygon extent
@@ -25,7 +25,7 @@ PROGRAMS = """
 """
 CLASSES = {'public face': FACE, 'below it': BELOW, 'programs': PROGRAMS}
 
-CLAUSE = re.compile(r'\s*(\w+)\s*\{')
+CLAUSE = re.compile(r'\s*(\w+)(?:\s+\w+)?\s*\{')
 HEAD_END = re.compile(r'\b(?:requires|ensures)\b|[{;]')
 FUNCTION = re.compile(r'\bpub\s+(?:(?:const|unsafe|extern\s*(?:"[^"]*")?)\s+)*fn\s+(\w+)')
 COMMENT = re.compile(r'//[^\n]*')
@@ -34,7 +34,7 @@ COMMENT = re.compile(r'//[^\n]*')
 def listed_crates(text: str) -> list[str]:
     """The crates of crates.txt, in its order."""
     lines = [line.partition('#')[0].strip() for line in text.splitlines()]
-    return [line.partition(':')[0].strip() for line in lines if line]
+    return [line.partition(':')[0].split()[0] for line in lines if line]
 
 
 def class_faults(listed: list[str], classes: dict[str, str]) -> list[str]:
@@ -57,7 +57,7 @@ def past(text: str, at: int, opening: str, closing: str) -> int:
 
 
 def clauses(text: str, at: int) -> list[str]:
-    """The names of the clauses of the function whose parameters open at `at` or after."""
+    """The kinds of the clauses of the function whose parameters open at `at` or after."""
     at = past(text, text.index('(', at), '(', ')')
     # the type of the result goes up to the first clause or the body
     found = HEAD_END.search(text, at)
@@ -70,7 +70,7 @@ def clauses(text: str, at: int) -> list[str]:
 
 
 def public_functions(text: str) -> Iterator[tuple[str, list[str]]]:
-    """The name of each public function and its clauses' names."""
+    """The name of each public function and its clauses' kinds."""
     text = COMMENT.sub('', text)
     for found in FUNCTION.finditer(text):
         yield found.group(1), clauses(text, found.end())

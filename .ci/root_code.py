@@ -1,7 +1,7 @@
 """The distance's root has no division, no remainder, no float and no table: neither in its source, nor in the program that is proved, nor in its machine code.
 
-root_code.py SOURCE PROGRAM LIBRARY examines the source that D's root stands in; the program, as `rt mir candidates` prints it, by which a lookup works
-out its distances; and the static library that exports D's root alone.
+root_code.py SOURCE PROGRAM LIBRARY examines the source that D's root stands in; the program, as `bench/program.py candidates` prints it, by which a lookup
+works out its distances; and the static library that exports D's root alone.
 """
 from __future__ import annotations
 
@@ -19,7 +19,7 @@ import mir  # noqa: E402
 CALLER, DISTANCES, EXPORTED = 'candidates::of_keys', 'root::distances', 'distance_of'
 
 COMMENT = re.compile(r'//[^\n]*')
-CLAUSE = re.compile(r'⌜.*?⌝', re.S)
+CLAUSE = re.compile(r'\b(?:requires|ensures)(?:\s+\w+)?\s*(?=\{)')
 GHOST = re.compile(r'^ghost use [^\n]*\n', re.M)
 BANNED = {'a division': re.compile(r'/'), 'a remainder': re.compile(r'%'), 'a float': re.compile(r'f(?:32|64)\b|\b\d[\d_]*\.(?!\.)')}
 
@@ -39,9 +39,20 @@ WHOLE = re.compile(
 )
 
 
+def without_clauses(source: str) -> str:
+    """The source without its contracts."""
+    while found := CLAUSE.search(source):
+        depth, end = 1, found.end() + 1
+        while depth:
+            depth += {'{': 1, '}': -1}.get(source[end], 0)
+            end += 1
+        source = source[: found.start()] + source[end:]
+    return source
+
+
 def faults_of_source(source: str) -> list[str]:
     """What stands in the source, beside comments and contracts, that must not."""
-    code = GHOST.sub('', CLAUSE.sub('', COMMENT.sub('', source)))
+    code = GHOST.sub('', without_clauses(COMMENT.sub('', source)))
     return [name for name, pattern in BANNED.items() if pattern.search(code)]
 
 

@@ -1,7 +1,9 @@
-"""Seconds by crate, from what `rt ci` printed: its proof and its must-fail edits, longest first.
+"""When each crate was proved, by the clock: `rt ci` prints no seconds of its own.
 
-times.py FILE SECONDS prints the table and, as the gate's time, SECONDS; times.py FILE SECONDS N also the N slowest edits.
-Two or more checks run at the same time, so that the totals are more than the time that went by.
+times.py pass FILE     passes on what `rt ci` prints, and writes the lines on proved crates and on edits to FILE, each behind the seconds since the start
+times.py FILE SECONDS  prints the table, the latest first, and, as the gate's time, SECONDS
+
+Several checks run at the same time, and edits are told of at the end, so a crate's seconds are when it was done, not how long it took.
 """
 from __future__ import annotations
 
@@ -9,68 +11,68 @@ import dataclasses
 import pathlib
 import re
 import sys
+import time
 
-PROOF = re.compile(r'^rt: (?P<crate>\w+) proved \((?P<seconds>\d+) s\)$', re.M)
-EDIT = re.compile(r'^rt: must-fail (?P<crate>\w+)/(?P<label>\S+): .*?(?P<seconds>\d+) s\)$', re.M)
+TOLD = re.compile(r'rt: (?:must-fail )?[\w-]+.*')
+DONE = re.compile(r'^(?P<seconds>\d+) rt: (?P<crate>\w+) (?P<how>proved|is kept)(?:$|:)', re.M)
+EDIT = re.compile(r'^\d+ rt: must-fail (?P<crate>\w+)/\S+: refused', re.M)
 
 
 @dataclasses.dataclass
-class Times:
-    """The seconds of one crate's proof, and of each of its edits."""
+class Crate:
+    """When a crate was done, whether an earlier run had proved it, and how many of its edits are refused."""
 
-    proof: int = 0
-    edits: dict[str, int] = dataclasses.field(default_factory=dict)
-
-    def of_edits(self) -> int:
-        """The seconds of all edits."""
-        return sum(self.edits.values())
-
-    def total(self) -> int:
-        """The seconds of the proof and all edits."""
-        return self.proof + self.of_edits()
+    seconds: int
+    is_kept: bool
+    edits: int = 0
 
 
-def times_in(text: str) -> dict[str, Times]:
-    """The times of each crate."""
-    found: dict[str, Times] = {}
-    for match in PROOF.finditer(text):
-        found.setdefault(match['crate'], Times()).proof = int(match['seconds'])
+def crates_in(text: str) -> dict[str, Crate]:
+    """The crates, in the order in which they were done."""
+    found = {match['crate']: Crate(int(match['seconds']), match['how'] == 'is kept') for match in DONE.finditer(text)}
     for match in EDIT.finditer(text):
-        found.setdefault(match['crate'], Times()).edits[match['label']] = int(match['seconds'])
+        if match['crate'] in found:
+            found[match['crate']].edits += 1
     return found
 
 
-def row(name: str, *numbers: object) -> str:
+def row(name: str, *cells: object) -> str:
     """A line of the table."""
-    return f'{name:<20}' + ''.join(f'{number:>8}' for number in numbers)
+    return f'{name:<20}' + ''.join(f'{cell:>12}' for cell in cells)
 
 
-def table(found: dict[str, Times]) -> list[str]:
-    """A line for each crate, the longest first, and one for all."""
-    ordered = sorted(found.items(), key=lambda item: (-item[1].total(), item[0]))
-    lines = [row(name, times.proof, len(times.edits), times.of_edits(), times.total()) for name, times in ordered]
-    proofs = sum(times.proof for times in found.values())
-    edits = sum(times.of_edits() for times in found.values())
-    number = sum(len(times.edits) for times in found.values())
-    return [row('crate', 'proof s', 'edits', 'edits s', 'both s'), *lines, row('all', proofs, number, edits, proofs + edits)]
+def table(found: dict[str, Crate]) -> list[str]:
+    """A line for each crate, the latest first, and one for all."""
+    ordered = sorted(found.items(), key=lambda item: (-item[1].seconds, item[0]))
+    lines = [row(name, crate.seconds, 'kept' if crate.is_kept else 'proved', crate.edits) for name, crate in ordered]
+    latest = max((crate.seconds for crate in found.values()), default=0)
+    proved = sum(not crate.is_kept for crate in found.values())
+    return [row('crate', 'done at s', 'how', 'edits'), *lines, row('all', latest, f'{proved} proved', sum(crate.edits for crate in found.values()))]
 
 
-def slowest(found: dict[str, Times], number: int) -> list[str]:
-    """The slowest edits."""
-    each = [(seconds, f'{name}/{label}') for name, times in found.items() for label, seconds in times.edits.items()]
-    return [f'{seconds:>5} s  {label}' for seconds, label in sorted(each, key=lambda edit: (-edit[0], edit[1]))[:number]]
+def pass_on(file: pathlib.Path) -> None:
+    """Passes standard input on, line by line."""
+    start = time.monotonic()
+    with file.open('w', encoding='utf-8') as told:
+        for line in sys.stdin:
+            print(line, end='', flush=True)
+            if TOLD.match(line):
+                told.write(f'{int(time.monotonic() - start)} {line}')
 
 
 def main(arguments: list[str]) -> int:
-    """Prints the table, the slowest edits where they are asked for, and the time of the whole gate."""
-    if len(arguments) not in (2, 3):
-        print('usage: times.py FILE SECONDS [N]')
+    """Passes a run on, or prints the table and the time of the whole gate."""
+    if len(arguments) != 2:
+        print('usage: times.py pass FILE, times.py FILE SECONDS')
         return 2
-    found = times_in(pathlib.Path(arguments[0]).read_text(encoding='utf-8'))
-    number = int(arguments[2]) if len(arguments) == 3 else 0
+    if arguments[0] == 'pass':
+        sys.stdin.reconfigure(errors='replace')
+        pass_on(pathlib.Path(arguments[1]))
+        return 0
+    found = crates_in(pathlib.Path(arguments[0]).read_text(encoding='utf-8'))
     minutes, seconds = divmod(int(arguments[1]), 60)
-    print('\n'.join([*table(found), *slowest(found, number), f'the whole gate: {minutes} min {seconds} s']))
-    return 0
+    print('\n'.join([*table(found), f'the whole gate: {minutes} min {seconds} s']))
+    return 0 if found else 1
 
 
 if __name__ == '__main__':

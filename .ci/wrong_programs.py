@@ -26,7 +26,7 @@ HEAD = re.compile(r'# (?P<subject>\S+): (?P<wrong>.+?)(?: \(refused by (?P<case>
 FUNCTION = re.compile(r'^ *(?P<public>pub )?(?:pub\(crate\) )?(?:extern "C" )?fn (?P<name>\w+)', re.M)
 BODY = re.compile(r'^\{\n(?P<text>.*?)^\}', re.M | re.S)
 CALL = re.compile(r'\s*(?P<called>\w+::\w+)\([\w\s,]*\)\s*')
-CLAUSE = re.compile(r'\b(?:requires|ensures|invariant)\s*\{')
+CLAUSE = re.compile(r'\b(?:requires|ensures|invariant)(?:\s+\w+)?\s*\{')
 DEFINED = re.compile(r'^(?:(?:pub|abbrev|unfoldable|record|data)\s+)*(?P<name>[^\s:]+) ', re.M)
 
 INTRODUCTION = """# Wrong programs
@@ -55,7 +55,7 @@ class Edit:
 def crates() -> list[str]:
     """The crates, lowest first."""
     lines = pathlib.Path('crates.txt').read_text(encoding='utf-8').splitlines()
-    return [line.split(':')[0].strip() for line in lines if line.strip() and not line.startswith('#')]
+    return [line.split(':')[0].split()[0] for line in lines if line.strip() and not line.startswith('#')]
 
 
 def functions(crate: str) -> dict[str, bool]:

@@ -1,4 +1,4 @@
-"""Reads a program of MIR, as `rt mir` prints it, and runs it, counting how often each statement runs.
+"""Reads a program of MIR, as program.py prints it, and runs it, counting how often each statement runs.
 
 The toolchain's definition of MIR says what each form means. Memory is one array of bytes, the locals of one call above those of another, and a
 pointer is an index into it. A sum that does not fit, a division by 0 and the like raise Stuck. To reach beside a value, or to read bytes that were

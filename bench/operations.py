@@ -2,7 +2,7 @@
 
     python3 bench/operations.py [POINTS]    POINTS: of each survey, 200 if left out
 
-`rt mir survey` prints the program, and mir.py runs it. Each operation counts in one line alone, and as one, whatever its width; copies, addresses of
+program.py prints the program, and mir.py runs it. Each operation counts in one line alone, and as one, whatever its width; copies, addresses of
 locals, and jumps without a condition do not count. A compiler makes fewer: it takes in most calls and much of the index arithmetic, and may work out
 several numbers at a time. Each answer is held to the exact-fraction program of tests/, and one that differs ends this with status 1.
 """
@@ -239,9 +239,9 @@ def table(points: int, counted: Sequence[Counts]) -> list[str]:
 
 
 def printed_program() -> str:
-    done = subprocess.run(["rt", "mir", "survey"], cwd=ROOT, capture_output=True, text=True)
+    done = subprocess.run([sys.executable, ROOT / "bench" / "program.py", "survey"], capture_output=True, text=True)
     if done.returncode:
-        raise Wrong(f"rt mir survey: status {done.returncode}\n{done.stderr}")
+        raise Wrong(f"program.py survey: status {done.returncode}\n{done.stderr}")
     return done.stdout
 
 

@@ -1,7 +1,7 @@
 /* From points to a table: four points are added to a fresh survey, one is changed, a location is looked up with its neighbours, and a grid is worked out,
  * as a grid file, which is read back, and as text for a plotting tool.
  *
- *   rt staticlib shepard
+ *   bash build.sh
  *   gcc -Iinclude examples/table.c target/staticlib/libshepard.a -o target/table && target/table
  */
 #include "shepard.h"

@@ -2,7 +2,7 @@
 
 The library is needed as a shared object, which gcc makes from the static one:
 
-    rt staticlib shepard
+    bash build.sh
     gcc -shared -o target/libshepard.so -Wl,--whole-archive target/staticlib/libshepard.a -Wl,--no-whole-archive
     export SHEPARD_LIBRARY=$PWD/target/libshepard.so PYTHONPATH=$PWD/python
 

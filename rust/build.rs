@@ -1,4 +1,4 @@
-//! Links the static library that `rt staticlib shepard` writes; SHEPARD_LIB_DIR names another folder that has it.
+//! Links the static library that `build.sh` writes; SHEPARD_LIB_DIR names another folder that has it.
 use std::env;
 use std::path::{Path, PathBuf};
 
@@ -11,7 +11,7 @@ fn main() {
     println!("cargo:rerun-if-changed={}", library.display());
     // no error: checks and documentation are made without the library, and only linking needs it
     if !library.is_file() {
-        println!("cargo:warning=libshepard.a is not in {}: run 'rt staticlib shepard' first", folder.display());
+        println!("cargo:warning=libshepard.a is not in {}: run 'bash build.sh' first", folder.display());
     }
     println!("cargo:rustc-link-search=native={}", folder.display());
     println!("cargo:rustc-link-lib=static=shepard");

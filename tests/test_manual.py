@@ -132,7 +132,7 @@ class Manual(unittest.TestCase):
 
     def test_failed_reads_and_writes_of_the_programs(self) -> None:
         source = (ROOT / "crates/print/src/lib.rt").read_text("utf-8")
-        told = re.findall(r'tell\(b"(.*)\\n"\)', source)
+        told = re.findall(r'tell\(\w+, b"(.*)\\n"\)', source)
         self.assertEqual(len(told), 2)
         for name in PROGRAMS:
             self.assertEqual(missing(told, part(read(name), ".SH DIAGNOSTICS")), [], name)

@@ -66,7 +66,7 @@ class Names(unittest.TestCase):
 
     def test_what_it_must_catch(self) -> None:
         point = "crates/model/specs/Point.antt"
-        self.assertEqual(list(faults(f"`Point`, `inDomain` and `x` in `{point}`", ROOT)), [])
+        self.assertEqual(list(faults(f"`Point`, `in_domain` and `x` in `{point}`", ROOT)), [])
         for name in ("Points", "poin", "leZ", "Type", "negsuc"):
             self.assertEqual(
                 list(faults(f"`{name}` in `{point}`", ROOT)), [f"{name} is not defined in {point}"]

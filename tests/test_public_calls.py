@@ -15,15 +15,15 @@ pub fn sound<'a>(
     x: &'a [u32; 4],
     y: u32,
 ) -> Reply
-    ensures { λ r. ⌜ Right {x} r
-        × (now x ≡ y) ⌝ }
-    ensures { λ _. ⌜ true ⌝ }
+    ensures value { Right {x} result
+        × (x.now ≡ y) }
+    ensures { IsTrue true }
 {
     helper(x, y)
 }
 
 fn helper(x: u32)
-    requires { ⌜ x < 4 ⌝ }
+    requires { x < 4 }
 {
 }
 """
@@ -54,6 +54,7 @@ class PublicCalls(unittest.TestCase):
 
     def test_sound(self) -> None:
         self.assertEqual(self.faults(SOUND), [])
+        self.assertEqual(self.faults(SOUND, "low:\nface staticlib: low\nmain: face\n"), [])
 
     def test_this_repository(self) -> None:
         self.assertEqual(SCRIPT.all_faults(ROOT, SCRIPT.CLASSES), [])
@@ -69,8 +70,8 @@ class PublicCalls(unittest.TestCase):
         )
 
     def test_requires_after_a_long_ensures(self) -> None:
-        head = "pub fn asking(x: u32)\n    ensures {\n        ⌜ a ⌝\n    }\n"
-        found = self.faults(head + "    requires { ⌜ b ⌝ }\n{\n}\n")
+        head = "pub fn asking(x: u32)\n    ensures {\n        a\n    }\n"
+        found = self.faults(head + "    requires low { b }\n{\n}\n")
         self.assertEqual(found, ["lib.rt: asking has a requires"])
 
     def test_no_public_function(self) -> None:

@@ -17,10 +17,11 @@ SCRIPT_PATH = ROOT / ".ci" / "root_code.py"
 SOURCE = ROOT / "crates" / "root" / "src" / "lib.rt"
 SOUND = """
 // Half of n / 2, as 0.5 f64, is no code.
-ghost use Prim.Native.Nat.{_/_, _%_};
+ghost use Rattle.std.specs.Prelude.{◌/◌, ◌%◌};
 
 pub extern "C" fn distance_of(n: u32) -> u32
-    ensures { λ r. ⌜ r ≡ n / 2 % 7 ⌝ }
+    ensures value { result ≡ (let half = n / 2 in half % 7) }
+    ensures { result ≡ distance_of {k = 2} n / 2 }
 {
     for i in 0..4 {
         n = n >> 1;

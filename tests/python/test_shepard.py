@@ -2,7 +2,7 @@
 
     python3 -m unittest discover -s tests/python
 
-The static library is the one that `rt staticlib shepard` writes, or that of the folder which SHEPARD_LIB_DIR names.
+The static library is the one that `build.sh` writes, or that of the folder which SHEPARD_LIB_DIR names.
 """
 
 from __future__ import annotations

@@ -34,8 +34,8 @@ fn record_fault(x: usize, y: usize, least: usize) -> u8
 // Reads the records, five bytes each, one after the other. `least` is one above the rank of the record before.
 pub fn read(s: &[u8], count: usize) -> Points
     requires { (length s.now ≡ 5 * count) × (count ≤ 256) }
-    ensures refusal_value { result.refusal ≡ fault (points_of s.now) }
-    ensures count_value { result.refusal ≡ 0 → held result.x result.y result.z count ≡ points_of s.now }
+    ensures refusal { result.refusal ≡ fault (points_of s.now) }
+    ensures points { result.refusal ≡ 0 → held result.x result.y result.z count ≡ points_of s.now }
 {
     let mut r = Points {
         refusal: 0,

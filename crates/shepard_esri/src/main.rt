@@ -2,16 +2,17 @@
 #![tactic(auto)]
 
 use esri_program::Output;
-use libc::STDIN_FILENO;
+use print::Streams;
 
-fn main() {
+fn main(rt: HostRuntime) {
+    let mut io = Streams::new(&rt);
     let mut input = grid_io::room();
-    let n = io::read_full(STDIN_FILENO, &mut input);
-    if n < input.len() && !print::input_ended() {
+    let n = print::fill(&mut io, &mut input);
+    if n < input.len() && !print::input_ended(&mut io) {
         return;
     }
     let o: Output = esri_program::run(&input[..n]);
     let bytes = o.bytes;
     let length = o.length;
-    print::word(&bytes[..length]);
+    print::word(&mut io, &bytes[..length]);
 }

@@ -1,41 +1,42 @@
 // Add, change, drop and clear.
 use crate::step::Step;
 use crate::{journal, replies, step};
+use print::Streams;
 use survey::{Reply, Survey};
 
-pub fn replied(r: Reply) -> Step {
-    replies::edited(r.refusal);
+pub fn replied(io: &mut Streams, r: Reply) -> Step {
+    replies::edited(io, r.refusal);
     let s = r.survey;
     step::next(s)
 }
 
 // x, y and z, four bytes each.
-pub fn add(s: Survey) -> Step {
-    let a = journal::read(12);
+pub fn add(io: &mut Streams, s: Survey) -> Step {
+    let a = journal::read(io, 12);
     if !a.whole {
-        return step::bad_journal(s);
+        return step::bad_journal(io, s);
     }
-    replied(survey::add(s, a.long(0), a.long(4), a.signed(8)))
+    replied(io, survey::add(s, a.long(0), a.long(4), a.signed(8)))
 }
 
 // x, y and z, four bytes each.
-pub fn change(s: Survey) -> Step {
-    let a = journal::read(12);
+pub fn change(io: &mut Streams, s: Survey) -> Step {
+    let a = journal::read(io, 12);
     if !a.whole {
-        return step::bad_journal(s);
+        return step::bad_journal(io, s);
     }
-    replied(survey::change(s, a.long(0), a.long(4), a.signed(8)))
+    replied(io, survey::change(s, a.long(0), a.long(4), a.signed(8)))
 }
 
 // x and y, four bytes each.
-pub fn drop(s: Survey) -> Step {
-    let a = journal::read(8);
+pub fn drop(io: &mut Streams, s: Survey) -> Step {
+    let a = journal::read(io, 8);
     if !a.whole {
-        return step::bad_journal(s);
+        return step::bad_journal(io, s);
     }
-    replied(survey::drop(s, a.long(0), a.long(4)))
+    replied(io, survey::drop(s, a.long(0), a.long(4)))
 }
 
-pub fn clear(s: Survey) -> Step {
-    replied(survey::clear(s))
+pub fn clear(io: &mut Streams, s: Survey) -> Step {
+    replied(io, survey::clear(s))
 }

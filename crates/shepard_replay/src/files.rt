@@ -3,6 +3,7 @@ ghost use Rattle.std.specs.Prelude.{◌≤◌, length};
 
 use crate::step::Step;
 use crate::{edits, journal, replies, show, step};
+use print::Streams;
 use survey::Survey;
 
 fn least(a: usize, b: usize) -> usize
@@ -13,47 +14,47 @@ fn least(a: usize, b: usize) -> usize
 }
 
 // Loads the next bytes, as many as fill `file`, and passes over the `rest`.
-fn load_from(s: Survey, file: &mut [u8], rest: usize) -> Step {
-    if !journal::fill(file) {
-        return step::bad_journal(s);
+fn load_from(io: &mut Streams, s: Survey, file: &mut [u8], rest: usize) -> Step {
+    if !journal::fill(io, file) {
+        return step::bad_journal(io, s);
     }
-    if !journal::skip(rest) {
-        return step::bad_journal(s);
+    if !journal::skip(io, rest) {
+        return step::bad_journal(io, s);
     }
-    edits::replied(survey::load(s, file))
+    edits::replied(io, survey::load(s, file))
 }
 
 // n in four bytes, and then n bytes, the file. A file has at most 65,536 bytes, so that of a longer one 65,537 are enough for its refusal.
-pub fn load(s: Survey) -> Step {
-    let a = journal::read(4);
+pub fn load(io: &mut Streams, s: Survey) -> Step {
+    let a = journal::read(io, 4);
     if !a.whole {
-        return step::bad_journal(s);
+        return step::bad_journal(io, s);
     }
     let n = a.long(0) as usize;
     let k = least(n, 65537);
     let mut file = [0u8; 65537];
-    load_from(s, &mut file[0..k], n - k)
+    load_from(io, s, &mut file[0..k], n - k)
 }
 
-fn write_into(s: Survey, lent: &mut [u8])
+fn write_into(io: &mut Streams, s: Survey, lent: &mut [u8])
     requires { length lent.old ≤ 65536 }
 {
     let w = survey::write(s, lent);
-    replies::written(w);
-    show::bytes(lent);
+    replies::written(io, w);
+    show::bytes(io, lent);
 }
 
 // In four bytes m, how many bytes are lent.
-pub fn write(s: Survey) -> Step {
-    let a = journal::read(4);
+pub fn write(io: &mut Streams, s: Survey) -> Step {
+    let a = journal::read(io, 4);
     if !a.whole {
-        return step::bad_journal(s);
+        return step::bad_journal(io, s);
     }
     let m = a.long(0) as usize;
     if 65536 < m {
-        return step::bad_journal(s);
+        return step::bad_journal(io, s);
     }
     let mut lent = [0xA5u8; 65536];
-    write_into(s, &mut lent[0..m]);
+    write_into(io, s, &mut lent[0..m]);
     step::next(s)
 }

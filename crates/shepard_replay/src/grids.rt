@@ -5,6 +5,7 @@ use crate::journal::Arguments;
 use crate::step::Step;
 use crate::{journal, replies, show, step};
 use grid_rules::Grid;
+use print::Streams;
 use survey::Survey;
 
 // The six numbers, two bytes each.
@@ -19,58 +20,58 @@ pub fn grid_of(a: Arguments) -> Grid {
     }
 }
 
-fn cells_into(s: Survey, g: Grid, lent: &mut [i16]) {
+fn cells_into(io: &mut Streams, s: Survey, g: Grid, lent: &mut [i16]) {
     let f = grid::cells(s, g, lent);
-    replies::filled(f);
-    show::values(lent);
+    replies::filled(io, f);
+    show::values(io, lent);
 }
 
 // The six numbers, and in four bytes m, how many cells are lent.
-pub fn cells(s: Survey) -> Step {
-    let a = journal::read(16);
+pub fn cells(io: &mut Streams, s: Survey) -> Step {
+    let a = journal::read(io, 16);
     if !a.whole {
-        return step::bad_journal(s);
+        return step::bad_journal(io, s);
     }
     let m = a.long(12) as usize;
     if 8192 < m {
-        return step::bad_journal(s);
+        return step::bad_journal(io, s);
     }
     let mut lent = [-23131i16; 8192];
-    cells_into(s, grid_of(a), &mut lent[0..m]);
+    cells_into(io, s, grid_of(a), &mut lent[0..m]);
     step::next(s)
 }
 
-fn file_into(s: Survey, g: Grid, lent: &mut [u8])
+fn file_into(io: &mut Streams, s: Survey, g: Grid, lent: &mut [u8])
     requires { length lent.old ≤ 65536 }
 {
     let w = grid::write(s, g, lent);
-    replies::written(w);
-    show::bytes(lent);
+    replies::written(io, w);
+    show::bytes(io, lent);
 }
 
-fn esri_into(s: Survey, g: Grid, lent: &mut [u8])
+fn esri_into(io: &mut Streams, s: Survey, g: Grid, lent: &mut [u8])
     requires { length lent.old ≤ 65536 }
 {
     let w = esri::write(s, g, lent);
-    replies::written(w);
-    show::bytes(lent);
+    replies::written(io, w);
+    show::bytes(io, lent);
 }
 
 // The six numbers, and in four bytes m, how many bytes are lent: for the Esri ASCII grid or for the grid file.
-pub fn write(s: Survey, as_esri: bool) -> Step {
-    let a = journal::read(16);
+pub fn write(io: &mut Streams, s: Survey, as_esri: bool) -> Step {
+    let a = journal::read(io, 16);
     if !a.whole {
-        return step::bad_journal(s);
+        return step::bad_journal(io, s);
     }
     let m = a.long(12) as usize;
     if 65536 < m {
-        return step::bad_journal(s);
+        return step::bad_journal(io, s);
     }
     let mut lent = [0xA5u8; 65536];
     if as_esri {
-        esri_into(s, grid_of(a), &mut lent[0..m]);
+        esri_into(io, s, grid_of(a), &mut lent[0..m]);
     } else {
-        file_into(s, grid_of(a), &mut lent[0..m]);
+        file_into(io, s, grid_of(a), &mut lent[0..m]);
     }
     step::next(s)
 }

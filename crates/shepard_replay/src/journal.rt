@@ -1,14 +1,14 @@
 // The journal, read from standard input: bytes, numbers, and what is passed over. Numbers are high byte first.
 ghost use Rattle.std.specs.Prelude.{◌<◌, ◌≤◌};
 
-use libc::STDIN_FILENO;
+use print::Streams;
 
 // Reads until `out` is full: whether so many bytes came. Where fewer did, the input has ended or a read failed.
-pub fn fill(out: &mut [u8]) -> bool {
-    if io::read_full(STDIN_FILENO, out) == out.len() {
+pub fn fill(io: &mut Streams, out: &mut [u8]) -> bool {
+    if print::fill(io, out) == out.len() {
         return true;
     }
-    print::input_ended();
+    print::input_ended(io);
     false
 }
 
@@ -20,11 +20,11 @@ pub struct Arguments {
 }
 
 // Reads `count` bytes.
-pub fn read(count: usize) -> Arguments
+pub fn read(io: &mut Streams, count: usize) -> Arguments
     requires { count ≤ 16 }
 {
     let mut bytes = [0u8; 16];
-    let whole = fill(&mut bytes[0..count]);
+    let whole = fill(io, &mut bytes[0..count]);
     Arguments { whole, bytes }
 }
 
@@ -59,21 +59,21 @@ impl Arguments {
 }
 
 // Passes over at most 65,536 bytes: whether n came.
-fn skip_some(n: usize) -> bool
+fn skip_some(io: &mut Streams, n: usize) -> bool
     requires { n ≤ 65536 }
 {
     let mut bytes = [0u8; 65536];
-    fill(&mut bytes[0..n])
+    fill(io, &mut bytes[0..n])
 }
 
 // Passes over n bytes: whether so many came.
-pub fn skip(n: usize) -> bool {
+pub fn skip(io: &mut Streams, n: usize) -> bool {
     let mut left = n;
     while 65536 < left {
-        if !skip_some(65536) {
+        if !skip_some(io, 65536) {
             return false;
         }
         left -= 65536;
     }
-    skip_some(left)
+    skip_some(io, left)
 }

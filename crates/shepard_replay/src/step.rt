@@ -1,5 +1,6 @@
 // What a call leaves: the survey, whether the next call is read, and the grid being filled.
 use grid_rows::Filling;
+use print::Streams;
 use survey::Survey;
 
 #[derive(Clone, Copy)]
@@ -23,8 +24,8 @@ pub fn ended(s: Survey) -> Step {
 }
 
 // An unknown call, a number above its limit, or input that ends inside a call.
-pub fn bad_journal(s: Survey) -> Step {
-    print::word(b"bad journal\n");
+pub fn bad_journal(io: &mut Streams, s: Survey) -> Step {
+    print::word(io, b"bad journal\n");
     ended(s)
 }
 
