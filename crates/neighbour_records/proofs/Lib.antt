@@ -1,3 +1,3 @@
--- The laws that the proofs by hand here and in the survey share.
+-- The laws that the proofs here and in the survey share.
 pub mod Over
 pub mod Rows

@@ -1,4 +1,3 @@
--- `cells` meets its contract. The invariant: the first 2 i bytes are those of the first i cells.
 use mathlib.Core.Path.{◌≡◌, refl}
 use Prim.Native.Nat.{◌+◌, ◌*◌, ◌/◌, ◌%◌}
 use native.Mathlib.Omega.{arith}

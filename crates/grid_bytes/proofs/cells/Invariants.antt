@@ -1,4 +1,4 @@
--- `cells` meets its contract. The invariant: the first 2 i bytes are those of the first i cells.
+-- The invariant: the first 2 i bytes are those of the first i cells.
 use mathlib.Core.Path.{◌≡◌}
 use Prim.Native.Nat.{◌*◌, ◌-◌, ◌≤◌}
 use lib.ListN.{length, take}

@@ -1,4 +1,3 @@
--- `decode` meets its contract. The invariant: the cells so far, and those of the bytes that are left, are those of all.
 use mathlib.Core.Path.{◌≡◌, sym, ap, ◌∙◌}
 use Prim.Native.Nat.{◌+◌, ◌*◌}
 use native.Mathlib.Numerals.{add-one}

@@ -1,4 +1,4 @@
--- `decode` meets its contract. The invariant: the cells so far, and those of the bytes that are left, are those of all.
+-- The invariant: the cells so far, and those of the bytes that are left, are those of all.
 use mathlib.Core.Path.{◌≡◌}
 use Prim.Native.Nat.{◌*◌, ◌-◌, ◌≤◌}
 use mathlib.Core.List.{◌++◌}

@@ -1,4 +1,3 @@
--- `has_length` meets its contract. The invariant: no number of columns that was tried has a file of n bytes.
 use mathlib.Core.Path.{◌≡◌, refl, sym, ◌∙◌}
 use native.Mathlib.Numerals.{add-one}
 use native.Mathlib.Omega.{arith}

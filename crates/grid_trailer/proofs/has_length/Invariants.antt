@@ -1,4 +1,4 @@
--- `has_length` meets its contract. The invariant: no number of columns that was tried has a file of n bytes.
+-- The invariant: no number of columns that was tried has a file of n bytes.
 use mathlib.Core.Path.{◌≡◌}
 use Prim.Native.Nat.{ℕ, suc, ◌-◌, ◌≤◌}
 use mathlib.Core.Bool.{Bool, false}

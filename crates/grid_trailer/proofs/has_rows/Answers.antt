@@ -1,4 +1,3 @@
--- `has_rows` meets its contract. The invariant: no number of rows that was tried has a file of n bytes.
 use mathlib.Core.Path.{◌≡◌, refl, sym}
 use Prim.Native.Nat.{ℕ, ◌+◌, ◌*◌, ◌≤◌}
 use native.Mathlib.Nat.{mul-le-mul}
