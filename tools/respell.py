@@ -61,7 +61,7 @@ def snake(name):
             parts.append(part)
         else:
             part = part.replace("getD", "get_or")
-            parts.append(re.sub(r"(?<=[a-z0-9])([A-Z])", lambda m: "_" + m[1].lower(), part))
+            parts.append(re.sub(r"(?<!^)([A-Z])", lambda m: "_" + m[1].lower(), part))
     return "_".join(parts)
 
 

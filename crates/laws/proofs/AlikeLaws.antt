@@ -104,7 +104,7 @@ module _ (s t : State) (p : Location) (kept : s.extent.radius ≡ t.extent.radiu
 abbrev kind_in : Neighbour → ℕ
 kind_in n = n.kind
 
--- a neighbourhood with other values, and with noPoint: what weights are worked out from
+-- a neighbourhood with other values, and with no_point: what weights are worked out from
 abbrev pub valued : Neighbourhood → (ℕ → ℤ) → Neighbourhood
 valued h v = record { count = h.count; influence = h.influence; excess = h.excess; product = h.product; value = v }
 

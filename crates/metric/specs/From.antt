@@ -17,8 +17,8 @@ unfoldable pub squared_from : Viewpoint → ℕ → ℕ → ℕ
 squared_from v x y = gap v.x x * gap v.x x + gap v.y y * gap v.y y
 
 -- offsets of coordinates as they are read
-unfoldable pub offset_xFrom : Viewpoint → ℕ → ℤ
-offset_xFrom v x = pos (x % 4096) -ℤ pos (v.x % 4096)
+unfoldable pub offset_x_from : Viewpoint → ℕ → ℤ
+offset_x_from v x = pos (x % 4096) -ℤ pos (v.x % 4096)
 
-unfoldable pub offset_yFrom : Viewpoint → ℕ → ℤ
-offset_yFrom v y = pos (y % 4096) -ℤ pos (v.y % 4096)
+unfoldable pub offset_y_from : Viewpoint → ℕ → ℤ
+offset_y_from v y = pos (y % 4096) -ℤ pos (v.y % 4096)

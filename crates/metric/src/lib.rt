@@ -3,7 +3,7 @@
 
 ghost use Rattle.std.specs.Prelude.{◌≡◌, ◌%◌};
 ghost use Rattle.model.specs.Distance.{gap as gap_of};
-ghost use Rattle.metric.specs.From.{Proper, squared_from, offset_xFrom, offset_yFrom};
+ghost use Rattle.metric.specs.From.{Proper, squared_from, offset_x_from, offset_y_from};
 
 // The location of a lookup.
 #[derive(Clone, Copy)]
@@ -31,14 +31,14 @@ pub fn squared_from(v: Viewpoint, x: u16, y: u16) -> u32
 
 // The offset of a point in x, in 16 bits, so that a neighbour takes 16 bytes. Coordinates are read as those of the arrays are.
 pub fn offset_x(v: Viewpoint, x: u16) -> i16
-    ensures { result ≡ offset_xFrom v x }
+    ensures { result ≡ offset_x_from v x }
 {
     point_arrays::coordinate(x) as i16 - point_arrays::coordinate(v.x) as i16
 }
 
 // The offset of a point in y.
 pub fn offset_y(v: Viewpoint, y: u16) -> i16
-    ensures { result ≡ offset_yFrom v y }
+    ensures { result ≡ offset_y_from v y }
 {
     point_arrays::coordinate(y) as i16 - point_arrays::coordinate(v.y) as i16
 }

@@ -5,7 +5,7 @@ use mathlib.Core.List.{List, [], ◌∷◌, ◌++◌, reverse, reverse_aux}
 use Rattle.model.specs.Lists.{All, Among, Pairs, Steps}
 use Rattle.model.specs.Point.{Location}
 
--- The cross product of b - a and c - a is `crossPlus a b c` less `crossMinus a b c`: it is positive where c lies left of the line from a to b, and zero where it lies on it.
+-- The cross product of b - a and c - a is `cross_plus a b c` less `cross_minus a b c`: it is positive where c lies left of the line from a to b, and zero where it lies on it.
 abbrev pub cross_plus : Location → Location → Location → ℕ
 cross_plus a b c = a.x * b.y + b.x * c.y + c.x * a.y
 
@@ -46,7 +46,7 @@ unfoldable pub polygon : List Location → List Location
 unfolding lower upper
 polygon l = reverse_aux (drop 1 (lower l)) (upper l)
 
--- The shoelace formula: twice the area that a closed way goes round, counter-clockwise, is `shoelacePlus` less `shoelaceMinus`.
+-- The shoelace formula: twice the area that a closed way goes round, counter-clockwise, is `shoelace_plus` less `shoelace_minus`.
 unfoldable pub shoelace_plus : List Location → ℕ
 shoelace_plus [] = 0
 shoelace_plus (a ∷ []) = 0

@@ -4,7 +4,7 @@ use Rattle.model.specs.Lists.{All}
 use Rattle.model.specs.Point.{Location, Point, State, in_range}
 use Rattle.model.specs.Choice.{Choice, ordered, within}
 use Rattle.metric.specs.declared.Viewpoint.{Viewpoint}
-use Rattle.metric.specs.From.{offset_xFrom, offset_yFrom}
+use Rattle.metric.specs.From.{offset_x_from, offset_y_from}
 use Rattle.squares.specs.Squares.{needed}
 use Rattle.candidates.specs.declared.Candidate.{Candidate}
 use Rattle.candidates.specs.declared.Candidates.{Candidates}
@@ -30,6 +30,6 @@ pub record Selects (s : State) (p : Location) (k : Choice) (b : Candidates) (t :
 
 -- a candidate with its offsets from a viewpoint
 unfoldable pub seen_from : Viewpoint → Candidate → Neighbour
-unfolding offset_xFrom offset_yFrom
+unfolding offset_x_from offset_y_from
 seen_from v a =
-    record { x = a.x; y = a.y; z = a.z; distance = a.distance; dx = offset_xFrom v a.x; dy = offset_yFrom v a.y }
+    record { x = a.x; y = a.y; z = a.z; distance = a.distance; dx = offset_x_from v a.x; dy = offset_y_from v a.y }

@@ -5,13 +5,13 @@ use borrow.Author.Rules.{rules}
 use mir.Facts.{to_z-of_z}
 use mir.Syntax.{w16}
 use Rattle.metric.specs.declared.Viewpoint.{Viewpoint}
-use Rattle.metric.specs.From.{offset_xFrom, offset_yFrom}
+use Rattle.metric.specs.From.{offset_x_from, offset_y_from}
 use Rattle.candidates.specs.declared.Candidate.{Candidate}
 use Rattle.neighbours.specs.declared.Neighbour.{Neighbour}
 use Rattle.neighbours.specs.Selects.{seen_from}
 use Rattle.neighbours.proofs.choice.seen_from.Goals as goal
 
-made : (v : Viewpoint) (a : Candidate) (z dx dy : ℤ) → z ≡ a.z → dx ≡ offset_xFrom v a.x → dy ≡ offset_yFrom v a.y
+made : (v : Viewpoint) (a : Candidate) (z dx dy : ℤ) → z ≡ a.z → dx ≡ offset_x_from v a.x → dy ≡ offset_y_from v a.y
     → ◌≡◌ {A = Neighbour} (record { x = a.x; y = a.y; z = z; distance = a.distance; dx = dx; dy = dy }) (seen_from v a)
 unfolding seen_from
 made v a z dx dy e f g = rw (e, f, g)
