@@ -10,7 +10,8 @@ use Rattle.model.specs.Extent.{survey_of}
 use Rattle.model.specs.Mean.{mean}
 use Rattle.model.specs.Answer.{answer}
 use Rattle.model.specs.Fraction.{Is}
-use Rattle.model.specs.Examples.{StarredRows, closed_rows}
+use Rattle.model.specs.Examples.{StarredRows}
+use Rattle.model.proofs.Examples.{closed_rows}
 use Rattle.laws.proofs.RecordLaws.{domain_bounds}
 use Rattle.laws.proofs.ChosenLaws.{chosen_all}
 use Rattle.laws.proofs.ExtentLaws.{kept_most}

@@ -1,3 +1,2 @@
--- The laws that the proofs by hand here and in the survey share.
+-- The law of a list whose first records are written over.
 pub mod Over
-pub mod Rows

@@ -11,7 +11,7 @@ use lib.Seq.{take_all, get_or-take}
 use borrow.Author.Tests.{eq-eqb, ne_eqb}
 use Rattle.model.specs.Point.{Location, Point, State, at, no_point}
 use Rattle.model.specs.Distance.{squared, distance_of, distance}
-use Rattle.model.specs.Choice.{ordered, within, distance_at, choice_apart, starts_at, coincident, choice}
+use Rattle.model.specs.Choice.{ordered, distance_at, choice_apart, starts_at, coincident, choice}
 use Rattle.laws.proofs.RootLaws.{distance_pos}
 use Rattle.laws.proofs.ChoiceLaws.{squared_zero, squared_apart}
 use Rattle.laws.proofs.NearestLaws.{length_ordered, within_le, choice_coincident, choice_otherwise, rule_few, rule_four, rule_some, rule_ten}

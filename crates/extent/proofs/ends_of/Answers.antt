@@ -1,5 +1,4 @@
 -- `ends_of` meets its contract. The invariant: the ends are those of the first i points.
-use Prim.Native.Nat.{◌-◌}
 use native.Mathlib.Omega.{arith}
 use mathlib.Core.Path.{◌≡◌}
 use lib.IntN.{pos}

@@ -1,6 +1,5 @@
 -- `search` meets its contract: the points before i pass, whatever their values, and the one that it stops at does not.
 use mathlib.Core.Path.{sym, ap, ◌∙◌}
-use Prim.Native.Nat.{◌-◌}
 use native.Mathlib.Omega.{arith}
 use mathlib.Core.Bool.{not}
 use Rattle.locate.specs.Leading.{passes}

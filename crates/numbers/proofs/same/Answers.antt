@@ -1,6 +1,5 @@
 -- `same` meets its contract. The invariant: what is left of the lists is the same exactly where the whole is.
 use mathlib.Core.Path.{refl, sym, ◌∙◌}
-use Prim.Native.Nat.{◌-◌}
 use native.Mathlib.Omega.{arith}
 use borrow.Author.Tests.{eq-eqb, ne_eqb}
 use Rattle.numbers.proofs.Compared.{same_step, same_end}

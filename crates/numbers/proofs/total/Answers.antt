@@ -1,5 +1,5 @@
 -- `total` meets its contract: the sum so far and the sum of what is left make the whole.
-use Prim.Native.Nat.{◌-◌, ◌<◌}
+use Prim.Native.Nat.{◌<◌}
 use native.Mathlib.Omega.{arith}
 use lib.ListN.{length}
 use Rattle.numbers.proofs.Totals.{total_drop, total_end}

@@ -1,5 +1,4 @@
 -- `lace` meets its contract. The invariant: the sum is that of the first i.
-use Prim.Native.Nat.{◌-◌}
 use mathlib.Core.Path.{refl, ◌∙◌}
 use native.Mathlib.Omega.{arith}
 use Rattle.polygon.specs.Stacked.{laced}

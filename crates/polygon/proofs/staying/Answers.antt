@@ -1,5 +1,4 @@
 -- `staying` meets its contract. The invariant: of the first k corners the same stay.
-use Prim.Native.Nat.{◌-◌}
 use mathlib.Core.Path.{◌∙◌}
 use native.Mathlib.Omega.{arith}
 use Rattle.polygon.proofs.StackedLaws.{trim_stays, trim_less, trim_short}

@@ -1,5 +1,5 @@
 -- `staying` meets its contract. The invariant: of the first k corners the same stay.
-use Prim.Native.Nat.{◌≤◌, ◌-◌}
+use Prim.Native.Nat.{◌≤◌}
 use mathlib.Core.Path.{◌≡◌}
 use Rattle.model.specs.Polygon.{trim}
 use Rattle.model.specs.Point.{location}

@@ -1,4 +1,3 @@
--- `read` meets its contract. The invariant, `Passed`: the first i points are in the arrays, and what is left decides on the fault.
 use mathlib.Core.Path.{refl, sym, ◌∙◌}
 use mir.Syntax.{w8}
 use mir.Facts.{to_z-of_z}

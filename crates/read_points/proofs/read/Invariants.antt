@@ -1,4 +1,4 @@
--- `read` meets its contract. The invariant, `Passed`: the first i points are in the arrays, and what is left decides on the fault.
+-- The invariant, `Passed`: the first i points are in the arrays, and what is left decides on the fault.
 use Prim.Native.Nat.{◌-◌}
 use Rattle.read_points.proofs.Passed.{Passed}
 use Rattle.read_points.proofs.read.Given as goal

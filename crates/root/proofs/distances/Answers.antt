@@ -1,6 +1,5 @@
 -- `distances` meets its contract. The invariant: the first i are known, fours of them.
 use mathlib.Core.Path.{refl}
-use Prim.Native.Nat.{◌-◌}
 use native.Mathlib.Nat.{not-suc-le-zero}
 use native.Mathlib.Omega.{arith}
 use Rattle.root.proofs.distances.Goals as goal

@@ -1,5 +1,4 @@
 -- `four_more` meets its contract. The invariant: the first i are known.
-use Prim.Native.Nat.{◌-◌}
 use native.Mathlib.Omega.{arith}
 use lib.ListN.{get_or, length-set}
 use borrow.Author.Rules.{rules}

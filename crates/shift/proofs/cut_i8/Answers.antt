@@ -1,6 +1,6 @@
 -- `cut_i8` meets its contract. The invariant: the array with the element at k taken out is what was asked for, at full length.
-use mathlib.Core.Path.{refl, ◌∙◌}
-use Prim.Native.Nat.{◌-◌, ◌+◌}
+use mathlib.Core.Path.{◌∙◌}
+use Prim.Native.Nat.{◌+◌}
 use lib.IntN.{pos}
 use mir.Val.{SFits}
 use lib.ListN.{get_or}

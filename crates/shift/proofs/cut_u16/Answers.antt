@@ -1,6 +1,5 @@
 -- `cut_u16` meets its contract. The invariant: the array with the element at i taken out is what was asked for, at full length.
 use mathlib.Core.Path.{refl, ◌∙◌}
-use Prim.Native.Nat.{◌-◌}
 use native.Mathlib.Omega.{arith}
 use lib.ListN.{length-set}
 use borrow.Author.Rules.{rules}

@@ -1,6 +1,5 @@
 -- `put_i8` meets its contract. The invariant: the array with the carried element put in at k is what was asked for, at full length.
-use mathlib.Core.Path.{refl, ◌∙◌}
-use Prim.Native.Nat.{◌-◌}
+use mathlib.Core.Path.{◌∙◌}
 use native.Mathlib.Omega.{arith}
 use lib.IntN.{pos}
 use lib.ListN.{get_or, length-set}

@@ -1,6 +1,5 @@
 -- `put_u16` meets its contract. The invariant: the array with the carried element put in at i is what was asked for, at full length.
 use mathlib.Core.Path.{refl, ◌∙◌}
-use Prim.Native.Nat.{◌-◌}
 use native.Mathlib.Omega.{arith}
 use lib.ListN.{length-set}
 use borrow.Author.Rules.{rules}

@@ -1,4 +1,3 @@
--- `count_within` meets its contract. The invariant: k is the count of the first i, each of which has 32 bits.
 use mathlib.Core.Path.{refl}
 use native.Mathlib.Omega.{arith}
 use borrow.Author.Count.{below_none, below_more}

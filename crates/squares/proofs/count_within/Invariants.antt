@@ -1,4 +1,4 @@
--- `count_within` meets its contract. The invariant: k is the count of the first i, each of which has 32 bits.
+-- The invariant: k is the count of the first i, each of which has 32 bits.
 use mathlib.Core.Path.{◌≡◌}
 use Prim.Native.Nat.{ℕ, ◌-◌, ◌≤◌, ◌<◌}
 use lib.ListN.{length, take, get_or}

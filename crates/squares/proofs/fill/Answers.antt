@@ -1,4 +1,3 @@
--- `fill` meets its contract. The invariant: the first i are filled.
 use mathlib.Core.Path.{◌≡◌, subst, ◌∙◌}
 use native.Mathlib.Omega.{arith}
 use lib.ListN.{length, length-set}

@@ -1,4 +1,4 @@
--- `fill` meets its contract. The invariant: the first i are filled.
+-- The invariant: the first i are filled.
 use Prim.Native.Nat.{◌-◌, ◌≤◌}
 use mathlib.Core.Path.{◌≡◌}
 use lib.ListN.{length}

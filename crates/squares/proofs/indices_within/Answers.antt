@@ -1,4 +1,3 @@
--- `indices_within` meets its contract. The invariant: the first k indices stored are those of the first i that are within the limit.
 use mathlib.Core.Path.{refl}
 use mathlib.Core.Bool.{Bool}
 use Prim.Native.Nat.{ℕ}

@@ -1,4 +1,4 @@
--- `indices_within` meets its contract. The invariant: the first k indices stored are those of the first i that are within the limit.
+-- The invariant: the first k indices stored are those of the first i that are within the limit.
 use mathlib.Core.Path.{◌≡◌}
 use Prim.Native.Nat.{◌-◌, ◌≤◌}
 use lib.ListN.{length, take, get_or}

@@ -1,4 +1,3 @@
--- `sums_of` meets its contract. The invariant: the two sums are those of the first i.
 use mathlib.Core.Path.{sym}
 use native.Mathlib.Omega.{arith}
 use Rattle.model.specs.Computed.{zero_f}

@@ -1,4 +1,4 @@
--- `sums_of` meets its contract. The invariant: the two sums are those of the first i.
+-- The invariant: the two sums are those of the first i.
 use mathlib.Core.Path.{◌≡◌}
 use Prim.Native.Nat.{◌-◌, ◌≤◌}
 use lib.ListN.{get_or}

@@ -1,4 +1,3 @@
--- `write` meets its contract. The invariant: the bytes up to 5 i are the records of the first i points.
 use mathlib.Core.Path.{◌≡◌, refl, sym, ◌∙◌}
 use mathlib.Core.List.{[], ◌∷◌, flat_map}
 use Prim.Native.Nat.{◌+◌, ◌*◌, ◌-◌, ◌≤◌}

@@ -1,4 +1,4 @@
--- `write` meets its contract. The invariant: the bytes up to 5 i are the records of the first i points.
+-- The invariant: the bytes up to 5 i are the records of the first i points.
 use mathlib.Core.Path.{◌≡◌}
 use mathlib.Core.List.{map}
 use Prim.Native.Nat.{◌*◌, ◌-◌, ◌≤◌}

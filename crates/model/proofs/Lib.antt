@@ -1,0 +1,2 @@
+-- The closed cases, proved.
+pub mod Examples
