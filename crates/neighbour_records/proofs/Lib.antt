@@ -1,2 +1,3 @@
--- The law of a list whose first records are written over.
+-- The laws that the proofs here and in the survey share.
 pub mod Over
+pub mod Rows

@@ -24,7 +24,7 @@ wider z f = record { sfits = omega (arith, f.sfits) }
 
 -- an offset as a call is handed it
 pub handed : (z : ℤ) → nat_abs z < 2 ^ 15 → to_z w16 (of_z w16 z) ≡ z
-handed z h = to_z-of_z (record { sfits = omega (arith, mag_abs z) })
+handed z h = to_z-of_z {w = w16} (record { sfits = omega (arith, mag_abs z) })
 
 pub product_handed : {r : ℤ} (z w : ℤ) → nat_abs z < 2 ^ 15 → nat_abs w < 2 ^ 15 → r ≡ to_z w16 (of_z w16 z) *ℤ to_z w16 (of_z w16 w) → r ≡ z *ℤ w
 product_handed z w h k e = e ∙ ap₂ ◌*ℤ◌ (handed z h) (handed w k)

@@ -5,7 +5,6 @@ use Prim.Native.Nat.{◌*◌, ◌-◌}
 use native.Mathlib.Omega.{arith}
 use lib.ListN.{length}
 use lib.Seq.{take_all}
-use Rattle.model.specs.Lists.{laid}
 use Rattle.laws.proofs.Stores.{laid_more}
 use Rattle.digits.specs.Hexadecimal.{hex_pair, hexadecimal}
 use Rattle.digits.proofs.hexadecimal.Goals as goal

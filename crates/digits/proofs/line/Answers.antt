@@ -1,12 +1,8 @@
 -- `line` meets its contract: the label, the number's digits and the line feed stand one after the other.
-use mathlib.Core.Path.{◌≡◌}
-use Prim.Native.Nat.{◌+◌, ◌-◌}
+use Prim.Native.Nat.{◌-◌}
 use native.Mathlib.Omega.{arith}
 use lib.Seq.{take_all}
-use lib.ListN.{length, set, length-take, length-drop}
-use borrow.Rule.Slice.PartMut.{put_mid}
-use Rattle.model.specs.Lists.{laid}
-use Rattle.digits.specs.Line.{line_of}
+use lib.ListN.{length, length-take, length-drop}
 use Rattle.digits.proofs.Lines.{length_line, line_put}
 use Rattle.digits.proofs.line.Goals as goal
 

@@ -1,7 +1,7 @@
 -- `spell` meets its contract. The invariant: the digits still to write and the bytes written after them are the digits of n.
 use mathlib.Core.Path.{◌≡◌}
 use mathlib.Core.List.{◌++◌}
-use Prim.Native.Nat.{◌+◌, ◌-◌, ◌≤◌}
+use Prim.Native.Nat.{◌≤◌}
 use lib.ListN.{length, drop}
 use Rattle.model.specs.Decimal.{digits_of}
 use Rattle.digits.proofs.spell.Given as goal

@@ -1,6 +1,5 @@
 -- `cells_length` meets its contract. The invariant: the sum and the bytes of the cells from i on are those of all.
 use mathlib.Core.Path.{◌≡◌, ap}
-use Prim.Native.Nat.{◌-◌}
 use native.Mathlib.Omega.{arith}
 use mathlib.Core.List.{[]}
 use lib.IntN.{pos}

@@ -38,7 +38,7 @@ returns-then-a-lt0-clause-out_after c =
     let n = c.size-n.result in
     let h = signed c.size-n.result c.args.a c.args.out.now (below c.ranges.a c.size-n.result c.size-n.ensures.0 c.if-a-lt0.true) c.requires in
     let w : Put (45 ∷ size_text n) a.out.now (put_mid 1 (length (set a.out.now 0 45) - 1) (set a.out.now 0 45) c.put_size-k.new.out) =
-        rw c.put_size-k.ensures.out_after (sign_put n (length (set a.out.now 0 45) - 1) a.out.now h (simp length-set (omega arith))) in
+    rw c.put_size-k.ensures.out_after (sign_put n (length (set a.out.now 0 45) - 1) a.out.now h (simp length-set (omega arith))) in
     rw (below c.ranges.a c.size-n.result c.size-n.ensures.0 c.if-a-lt0.true) w.0
 
 pub put_size-requires : goal.put_size-requires

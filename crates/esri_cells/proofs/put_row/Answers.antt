@@ -1,6 +1,6 @@
 -- `put_row` meets its contract. The invariant: the cells before the i-th are written, and the rest of the line is left.
 use mathlib.Core.Path.{◌≡◌, refl, ap, ◌∙◌}
-use Prim.Native.Nat.{◌+◌, ◌-◌, ◌≤◌}
+use Prim.Native.Nat.{◌-◌}
 use native.Mathlib.Omega.{arith}
 use mathlib.Core.List.{[], ◌∷◌}
 use lib.IntN.{pos}
@@ -9,8 +9,6 @@ use mir.Syntax.{w16}
 use mir.Val.{SFits}
 use mir.Facts.{to_z-of_z}
 use borrow.Author.Rules.{rules}
-use borrow.Rule.Slice.PartMut.{mid_of}
-use Rattle.model.specs.Lists.{laid}
 use Rattle.model.specs.Esri.{cell_text, row_line}
 use Rattle.laws.proofs.Writing.{none_written, same_size, all_written}
 use Rattle.esri_cells.proofs.Lines.{left_of, none_left, left_line, cell_room, put_size, cell_put}

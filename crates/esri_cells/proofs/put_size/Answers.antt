@@ -1,5 +1,5 @@
 -- `put_size` meets its contract: digits, point and decimals stand one after the other.
-use Prim.Native.Nat.{ℕ, ◌+◌, ◌-◌}
+use Prim.Native.Nat.{◌+◌, ◌-◌}
 use native.Mathlib.Omega.{arith}
 use lib.ListN.{set, length-set}
 use borrow.Rule.Slice.PartMut.{put_mid, mid_len}
@@ -28,7 +28,7 @@ returns-clause-out_after c =
     let a = c.args in
     let m = mid_len (p.result + 1) (p.result + 9) (set p.new.out p.result 46) (simp length-set (omega (arith, length_size a.n, p.ensures.value))) in
     let w : Put (size_text a.n) a.out.now (put_mid (p.result + 1) (p.result + 9 - (p.result + 1)) (set p.new.out p.result 46) c.spell.new.out) =
-        rw p.ensures.out_after (size_put a.n p.result (p.result + 9 - (p.result + 1)) a.out.now c.spell.new.out p.ensures.value (omega arith) (rw m at c.spell.ensures) (omega arith)) in
+    rw p.ensures.out_after (size_put a.n p.result (p.result + 9 - (p.result + 1)) a.out.now c.spell.new.out p.ensures.value (omega arith) (rw m at c.spell.ensures) (omega arith)) in
     w.0
 
 pub returns-clause-value : goal.returns-clause-value

@@ -1,4 +1,4 @@
--- `fill` meets its contract. The invariant: the first i records are written, and the rest of the lent list is as it was.
+-- The invariant: the first i records are written over the list that was lent.
 use mathlib.Core.Path.{◌≡◌}
 use Prim.Native.Nat.{◌-◌, ◌≤◌}
 use Rattle.neighbour_records.proofs.Over.{over}

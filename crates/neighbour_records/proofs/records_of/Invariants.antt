@@ -1,4 +1,4 @@
--- `records_of` meets its contract. The invariant: the first i are the records of the first i items.
+-- The invariant: the first i are the records of the first i items.
 use mathlib.Core.Path.{◌≡◌}
 use mathlib.Core.List.{map}
 use Prim.Native.Nat.{◌-◌, ◌≤◌}

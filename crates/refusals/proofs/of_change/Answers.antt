@@ -1,6 +1,5 @@
 -- `of_change` meets its contract, test by test.
 use mathlib.Core.Path.{sym, ap, ◌∙◌}
-use borrow.Author.Tests.{not-true, not-false}
 use mir.Facts.{to_z-of_z}
 use Rattle.model.specs.Calls.{taken}
 use Rattle.refusals.proofs.Cases.{change_stopped, change_missing, change_passed}

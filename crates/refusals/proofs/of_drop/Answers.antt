@@ -1,6 +1,5 @@
 -- `of_drop` meets its contract, test by test.
 use mathlib.Core.Path.{sym, ap, ◌∙◌}
-use borrow.Author.Tests.{not-true, not-false}
 use Rattle.model.specs.Calls.{taken}
 use Rattle.refusals.proofs.Cases.{drop_off, drop_missing, drop_passed}
 use Rattle.refusals.proofs.of_drop.Goals as goal

@@ -1,7 +1,6 @@
 -- `of_lookup` meets its contract, test by test.
 use mathlib.Core.Path.{sym, ◌∙◌}
 use native.Mathlib.Omega.{arith}
-use borrow.Author.Tests.{not-true, not-false}
 use Rattle.refusals.proofs.Cases.{lookup_off, lookup_empty, lookup_passed}
 use Rattle.refusals.proofs.of_lookup.Goals as goal
 

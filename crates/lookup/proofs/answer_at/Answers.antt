@@ -18,8 +18,7 @@ use Rattle.neighbours.specs.declared.Chosen.{Chosen}
 use Rattle.neighbours.specs.Chose.{Chose}
 use Rattle.lookup.specs.Asked.{Handed, Asked}
 use Rattle.lookup.proofs.AnswerLaws.{in_range_lem}
-use Rattle.lookup.proofs.answer_at.Statement.{statement}
-use Rattle.lookup.proofs.answer_at.Tie as tie
+use Rattle.lookup.proofs.answer_at.Goals as goal
 
 asked : (s : State) (p : Location) (xs ys : List ℕ) (zs : List ℤ) (n : ℕ) (v : Viewpoint) (r0 : ℕ) (c : Chosen) → Handed s p xs ys zs n v r0 → Chose s p c → Asked s p c
 asked s p xs ys zs n v r0 c h chose = record {
@@ -30,26 +29,19 @@ asked s p xs ys zs n v r0 c h chose = record {
   chose = chose;
 }
 
-choose-requires : tie.Need-choose-requires
-choose-requires c κs = c.requires.2.proper
+pub answer_of-a-requires : goal.answer_of-a-requires
+answer_of-a-requires c =
+    let h = c.requires.2 in
+    (c.requires.0, c.requires.1, asked c.requires.0 c.requires.1 _ _ _ _ _ _ c.choose-c.result h (c.choose-c.ensures c.requires.0 c.requires.1 h.points h.sees h.radius))
 
-answer-of-requires : tie.Need-answer-of-requires
-answer-of-requires c κs =
-    let e = c.before in
-    let h = e.requires.2 in
-    (e.requires.0, e.requires.1, asked e.requires.0 e.requires.1 _ _ _ _ _ _ c.choose.result h (c.choose.ensures e.requires.0 e.requires.1 h.points h.sees h.radius))
-
-returns : tie.Need-returns
+pub returns : goal.returns
 returns c = λ s p h.
-    let k = c.before.choose in
+    let k = c.choose-c in
     let chose = k.ensures s p h.points h.sees h.radius in
     let A = asked s p _ _ _ _ _ _ k.result h chose in
-    let same = to_z-of_z {w = w16} (record { sfits = c.answer-of.type-inv }) ∙ c.answer-of.ensures s p A in
+    let same = to_z-of_z {w = w16} (record { sfits = c.answer_of-a.type_inv }) ∙ c.answer_of-a.ensures s p A in
     record {
       answer = same;
       right = subst (λ (z : ℤ). Right s p z) (sym same) (answer_right s p (in_range_lem s p k.result A));
       chosen = chose;
     }
-
-pub answer_at_spec : {M : Type 1} → statement M
-answer_at_spec = tie.close (tie.spec choose-requires answer-of-requires returns)
