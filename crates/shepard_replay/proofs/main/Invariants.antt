@@ -1,0 +1,5 @@
+-- `main` ends: each turn is counted down.
+use Rattle.shepard_replay.proofs.main.Given as goal
+
+abbrev pub decreases-loop-turns : goal.decreases-loop-turns
+decreases-loop-turns l = l.turns
