@@ -13,7 +13,7 @@ returns-then-no-ne0 c =
     let n = c in
     let b = n in
     let a = b.args in
-    reply_refused (Add a.x a.y a.z) a.t1 _ _ (rw (to_z-of_z b.ranges.z) at (n.of_add-no.ensures (state_of a.t1) a.t1.z (holds a.t1))) c.if-no-ne0.true c.refused.ensures
+    reply_refused (Add a.x a.y a.z) a.s _ _ (rw (to_z-of_z b.ranges.z) at (n.of_add-no.ensures (state_of a.s) a.s.z (holds a.s))) c.if-no-ne0.true c.refused.ensures
 
 pub with_point-t-requires : goal.with_point-t-requires
 unfolding contents_in
@@ -21,8 +21,8 @@ with_point-t-requires c =
     let f = c in
     let b = f in
     let a = b.args in
-    let h = add_hands a.x a.y a.z (contents_in a.t1) (sym (rw (to_z-of_z b.ranges.z) at (f.of_add-no.ensures (state_of a.t1) a.t1.z (holds a.t1))) ∙ f.if-no-ne0.false) in
-    (rank_within a.t1 a.x a.y _ (c.rank-i.ensures a.t1.z), h.0, rw (to_z-of_z b.ranges.z) h.1)
+    let h = add_hands a.x a.y a.z (contents_in a.s) (sym (rw (to_z-of_z b.ranges.z) at (f.of_add-no.ensures (state_of a.s) a.s.z (holds a.s))) ∙ f.if-no-ne0.false) in
+    (rank_within a.s a.x a.y _ (c.rank-i.ensures a.s.z), h.0, rw (to_z-of_z b.ranges.z) h.1)
 
 pub returns : goal.returns
 unfolding contents_in
@@ -34,5 +34,5 @@ returns c =
     let b = n in
     let a = b.args in
     let t = rw (to_z-of_z b.ranges.z) at e.with_point-t.ensures in
-    reply_accepted (Add a.x a.y a.z) a.t1 _ _ _ (rw (to_z-of_z b.ranges.z) at (n.of_add-no.ensures (state_of a.t1) a.t1.z (holds a.t1))) f.if-no-ne0.false
-    (added a.t1 a.x a.y _ (r.rank-i.ensures a.t1.z) a.z _ t) t.plain c.settled.ensures
+    reply_accepted (Add a.x a.y a.z) a.s _ _ _ (rw (to_z-of_z b.ranges.z) at (n.of_add-no.ensures (state_of a.s) a.s.z (holds a.s))) f.if-no-ne0.false
+    (added a.s a.x a.y _ (r.rank-i.ensures a.s.z) a.z _ t) t.plain c.settled.ensures

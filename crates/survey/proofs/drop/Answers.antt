@@ -11,14 +11,14 @@ pub returns-then-no-ne0 : goal.returns-then-no-ne0
 returns-then-no-ne0 c =
     let n = c in
     let a = n.args in
-    reply_refused (Drop a.x a.y) a.t1 _ _ (n.of_drop-no.ensures (state_of a.t1) a.t1.z (holds a.t1)) c.if-no-ne0.true c.refused.ensures
+    reply_refused (Drop a.x a.y) a.s _ _ (n.of_drop-no.ensures (state_of a.s) a.s.z (holds a.s)) c.if-no-ne0.true c.refused.ensures
 
 pub without_point-t-requires : goal.without_point-t-requires
 unfolding contents_in
 without_point-t-requires c =
     let f = c in
     let a = f.args in
-    drop_within a.t1 a.x a.y _ (c.find-i.ensures a.t1.z) (sym (f.of_drop-no.ensures (state_of a.t1) a.t1.z (holds a.t1)) ∙ f.if-no-ne0.false)
+    drop_within a.s a.x a.y _ (c.find-i.ensures a.s.z) (sym (f.of_drop-no.ensures (state_of a.s) a.s.z (holds a.s)) ∙ f.if-no-ne0.false)
 
 pub returns : goal.returns
 unfolding contents_in
@@ -29,4 +29,4 @@ returns c =
     let n = f in
     let a = n.args in
     let t = e.without_point-t.ensures in
-    reply_accepted (Drop a.x a.y) a.t1 _ _ _ (n.of_drop-no.ensures (state_of a.t1) a.t1.z (holds a.t1)) f.if-no-ne0.false (dropped a.t1 a.x a.y _ (r.find-i.ensures a.t1.z) _ t) t.plain c.settled.ensures
+    reply_accepted (Drop a.x a.y) a.s _ _ _ (n.of_drop-no.ensures (state_of a.s) a.s.z (holds a.s)) f.if-no-ne0.false (dropped a.s a.x a.y _ (r.find-i.ensures a.s.z) _ t) t.plain c.settled.ensures

@@ -8,7 +8,8 @@ use Rattle.survey.proofs.lookup.Goals as goal
 pub returns-then-no-ne0 : goal.returns-then-no-ne0
 returns-then-no-ne0 c =
     let a = c.args in
-    looked_refused (state_of a.s) a.x a.y _ (c.of_lookup-no.ensures (state_of a.s) (points_held a.s)) c.if-no-ne0.true
+    let h = looked_refused (state_of a.s) a.x a.y _ (c.of_lookup-no.ensures (state_of a.s) (points_held a.s)) c.if-no-ne0.true in
+    record { value = h.0; rounded = h.1 }
 
 pub answered-a-requires : goal.answered-a-requires
 answered-a-requires c =
@@ -17,7 +18,7 @@ answered-a-requires c =
 
 pub returns : goal.returns
 returns c =
-    let b = c in
-    let a = b.args in
-    looked_found (state_of a.s) a.x a.y _ _
-    c.found.ensures c.answered-a.ensures (sym (b.of_lookup-no.ensures (state_of a.s) (points_held a.s)) ∙ b.if-no-ne0.false)
+    let a = c.args in
+    let h = looked_found (state_of a.s) a.x a.y _ _
+        c.found.ensures c.answered-a.ensures (sym (c.of_lookup-no.ensures (state_of a.s) (points_held a.s)) ∙ c.if-no-ne0.false) in
+    record { value = h.0; rounded = h.1 }
