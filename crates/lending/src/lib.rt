@@ -1,5 +1,4 @@
-// Lookups that are lent a list for the records of the neighbours. A function that sees a reference to records is proved by a walk along its statements,
-// so these are few, decide nothing, and stand apart from the survey.
+// Lookups that are lent a list for the records of the neighbours; they decide nothing, and stand apart from the survey.
 #![tactic(auto)]
 
 ghost use Rattle.std.specs.Prelude.{◌≡◌, ◌++◌, min, length, take, drop};

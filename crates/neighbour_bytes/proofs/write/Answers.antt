@@ -21,7 +21,7 @@ loop-i-preserved c =
     let l = r.loop-i in
     let a = r.args in
     let i = l.i in
-    let e = laid_more field_bytes 10 (λ _. refl) a.t1 no_record i (length l.out - 10 * i) a.out.now l.out (omega arith) (omega arith) l.invariant.2 in
+    let e = laid_more field_bytes 10 (λ _. refl) a.list no_record i (length l.out - 10 * i) a.out.now l.out (omega arith) (omega arith) l.invariant.2 in
     (omega arith, omega arith, rw (q.copy.ensures.laid, r.fields-b.ensures) e)
 
 pub returns : goal.returns
