@@ -6,6 +6,7 @@ use mathlib.Core.List.{List, []}
 use lib.ListN.{take, drop}
 use contract.Lifetimes.{Lfts}
 use denote.Ref.{Bor}
+use denote.MutBor.{MutBor}
 use Rattle.model.specs.Lists.{Bytes}
 use Rattle.model.specs.Point.{State}
 use Rattle.model.specs.Calls.{Call, Load, refusal, accepted}
@@ -26,7 +27,7 @@ points_of : {s t : State} → s ≡ t → s.contents.points ≡ t.contents.point
 points_of e = ap (λ (u : State). u.contents.points) e
 
 -- what `write` gave of such a survey, `load` accepts, and it leaves the same points
-pub written_loads : {cs : List Call} {s : Survey} → Runs cs s → (κs κs' : Lfts 1) (out out' : Bor (List ℕ)) (n : ℕ)
+pub written_loads : {cs : List Call} {s : Survey} → Runs cs s → (κs κs' : Lfts 1) (out out' : MutBor (List ℕ)) (n : ℕ)
     → write-of.Post κs (s, (out, tt)) (Length n) (s, (out', tt))
     → (t : Survey) (file : Bor (List ℕ)) (r : Reply) → file.now ≡ take n out'.now
     → load_of.Post κs' (t, (file, tt)) r (t, (file, tt))
@@ -42,7 +43,7 @@ written_loads {cs} {s} h κs κs' out out' n w t file r e l =
 -- a file that `load` accepted ends in the bytes that `write` then gives
 pub loaded_ends : (κs κs' : Lfts 1) (t : Survey) (file : Bor (List ℕ)) (r : Reply) → Bytes file.now
     → load_of.Post κs (t, (file, tt)) r (t, (file, tt)) → r.refusal ≡ 0
-    → (out out' : Bor (List ℕ)) (n : ℕ) → write-of.Post κs' (r.survey, (out, tt)) (Length n) (r.survey, (out', tt))
+    → (out out' : MutBor (List ℕ)) (n : ℕ) → write-of.Post κs' (r.survey, (out, tt)) (Length n) (r.survey, (out', tt))
     → drop (record_start file.now) file.now ≡ take n out'.now
 unfolding refusal accepted
 loaded_ends κs κs' t file r b l a out out' n w =

@@ -26,7 +26,7 @@ unfolding call_of
 returns-then-op-eq0 c q e =
     let v = c in
     let a = v.args in
-    let w = a.t3 in
+    let w = a.w in
     let z = to_z-of_z {w = w32} {z = v.signed_long.result} (record { sfits = v.signed_long.type_inv }) ∙ v.signed_long.ensures in
     replied (Add (get_or w 0 0) (get_or w 1 0) (signed 2147483648 (get_or w 2 0))) a.s _
     (subst (λ (k : ℤ). Replies (Add (get_or w 0 0) (get_or w 1 0) k) a.s c.add-r.result) z c.add-r.ensures) q e
@@ -37,7 +37,7 @@ unfolding call_of
 returns-then-op-eq1 c q e =
     let v = c in
     let a = v.args in
-    let w = a.t3 in
+    let w = a.w in
     let z = to_z-of_z {w = w32} {z = v.signed_long-then-op-eq1.result} (record { sfits = v.signed_long-then-op-eq1.type_inv }) ∙ v.signed_long-then-op-eq1.ensures in
     replied (Change (get_or w 0 0) (get_or w 1 0) (signed 2147483648 (get_or w 2 0))) a.s _
     (subst (λ (k : ℤ). Replies (Change (get_or w 0 0) (get_or w 1 0) k) a.s c.change-r.result) z c.change-r.ensures) q e
@@ -48,21 +48,21 @@ unfolding call_of
 returns-then-op-eq2 c q e =
     let t = c in
     let a = t.args in
-    replied (Drop (get_or a.t3 0 0) (get_or a.t3 1 0)) a.s _ c.drop-r.ensures q e ∙ numbered a.t3 a.file.now q t.if-op-eq2.true
+    replied (Drop (get_or a.w 0 0) (get_or a.w 1 0)) a.s _ c.drop-r.ensures q e ∙ numbered a.w a.file.now q t.if-op-eq2.true
 
 pub returns-then-op-eq3 : goal.returns-then-op-eq3
 unfolding call_of
 returns-then-op-eq3 c q e =
     let t = c in
     let a = t.args in
-    replied Clear a.s _ c.clear-r.ensures q e ∙ numbered a.t3 a.file.now q t.if-op-eq3.true
+    replied Clear a.s _ c.clear-r.ensures q e ∙ numbered a.w a.file.now q t.if-op-eq3.true
 
 pub returns-then-op-eq4 : goal.returns-then-op-eq4
 unfolding call_of
 returns-then-op-eq4 c q e =
     let t = c in
     let a = t.args in
-    replied (Load a.file.now) a.s _ c.load-r.ensures q e ∙ numbered a.t3 a.file.now q t.if-op-eq4.true
+    replied (Load a.file.now) a.s _ c.load-r.ensures q e ∙ numbered a.w a.file.now q t.if-op-eq4.true
 
 pub returns : goal.returns
 unfolding call_of

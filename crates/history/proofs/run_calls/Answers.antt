@@ -5,8 +5,6 @@ use Rattle.history.proofs.run_calls.Goals as goal
 pub returns : goal.returns
 returns c =
     let a = c.args in
-    let looked = rw c.left_by-t.ensures at c.lookup.ensures in
-    record {
-      value = looked.0;
-      claim = claim_of a.x a.y _ _ looked.0 looked.1;
-    }
+    let value = rw c.left_by-t.ensures at c.lookup.ensures.value in
+    let rounded = rw c.left_by-t.ensures at c.lookup.ensures.rounded in
+    record { value = value; claim = claim_of a.x a.y _ _ value rounded }
