@@ -20,5 +20,5 @@ pub returns : goal.returns
 returns c =
     let a = c.args in
     let h = looked_found (state_of a.s) a.x a.y _ _
-        c.found.ensures c.answered-a.ensures (sym (c.of_lookup-no.ensures (state_of a.s) (points_held a.s)) ∙ c.if-no-ne0.false) in
+    c.found.ensures c.answered-a.ensures (sym (c.of_lookup-no.ensures (state_of a.s) (points_held a.s)) ∙ c.if-no-ne0.false) in
     record { value = h.0; rounded = h.1 }
