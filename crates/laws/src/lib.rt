@@ -1,3 +1,2 @@
 // Laws of the model's definitions, in proofs/. This crate has no code.
 #![tactic(auto)]
-

@@ -1,3 +1,2 @@
 // Document 01 as definitions, in specs/. This crate has no code.
 #![tactic(auto)]
-

@@ -2,7 +2,7 @@
 -- function's contract says, as the check proved it of the code (`Post` of the function's generated module `Reads`). A run has the rows that were written to lent cells.
 use Rattle.std.specs.Prelude.{List, [], ◌∷◌, ◌++◌, ℤ, take}
 use contract.Lifetimes.{Lfts}
-use Rattle.std.specs.Borrow.{Bor}
+use Rattle.std.specs.Borrow.{MutBor}
 use Rattle.model.specs.Calls.{Call}
 use Rattle.model.specs.Filling.{GivenRow}
 use Rattle.model.specs.RowCalls.{RowCall, OnSurvey, Begin, NextRow}
@@ -29,7 +29,7 @@ written (Refused n) d = []
 pub data MakesRow : RowCall → Survey → Filling → Survey → Filling → List GivenRow → Type 0 where
   calls : (c : Call) (s t : Survey) (f : Filling) → Makes c s t → MakesRow (OnSurvey c) s f t f []
   begins : (s : Survey) (f : Filling) (g : Grid) (r : BeginReply) → begin-of.Post tt (f, (s, (g, tt))) r (f, (s, (g, tt))) → MakesRow (Begin (grid_of g)) s f s r.filling []
-  fills : (s : Survey) (f : Filling) (κs : Lfts 1) (out left : Bor (List ℤ)) (r : RowReply) → row_of.Post κs (f, (out, tt)) r (f, (left, tt))
+  fills : (s : Survey) (f : Filling) (κs : Lfts 1) (out left : MutBor (List ℤ)) (r : RowReply) → row_of.Post κs (f, (out, tt)) r (f, (left, tt))
       → MakesRow (NextRow out.now) s f s r.filling (written r.answer left.now)
 
 -- the calls, made one after the other on the survey and the grid being filled in front, left the two behind, and wrote these rows, in order

@@ -13,7 +13,6 @@ returns-in-Found c =
     let f : SFits w16 c.in-Found.v = search rules in
     rw c.in-Found.is (refl, to_z-of_z f, refl, refl)
 
-
 pub returns-in-Refused : goal.returns-in-Refused
 unfolding AnswerTold
 returns-in-Refused c = rw c.in-Refused.is (refl, refl, refl, refl)

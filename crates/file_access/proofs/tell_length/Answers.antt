@@ -7,7 +7,6 @@ pub returns-in-Length : goal.returns-in-Length
 unfolding LengthTold
 returns-in-Length c = rw c.in-Length.is (refl, refl)
 
-
 pub returns-in-Refused : goal.returns-in-Refused
 unfolding LengthTold
 returns-in-Refused c = rw c.in-Refused.is (refl, refl)

@@ -22,15 +22,15 @@ pub put_records-requires : goal.put_records-requires
 put_records-requires c =
     let a = c.args in
     let looked : Lends a.file.now a.x a.y a.records.now c.lookup_lending-looked.result.answer c.lookup_lending-looked.result.records =
-        lends a.file.now c.read-loaded.result c.read-loaded.ensures c.if-loaded-ne0.false a.x a.y a.records.now _ refl
-        c.lookup_lending-looked.result.answer c.lookup_lending-looked.result.records c.lookup_lending-looked.ensures in
+    lends a.file.now c.read-loaded.result c.read-loaded.ensures c.if-loaded-ne0.false a.x a.y a.records.now _ refl
+    c.lookup_lending-looked.result.answer c.lookup_lending-looked.result.records c.lookup_lending-looked.ensures in
     looked.room
 
 pub returns : goal.returns
 returns c =
     let a = c.args in
     let looked : Lends a.file.now a.x a.y a.records.now c.lookup_lending-looked.result.answer c.lookup_lending-looked.result.records =
-        lends a.file.now c.read-loaded.result c.read-loaded.ensures c.if-loaded-ne0.false a.x a.y a.records.now _ refl
-        c.lookup_lending-looked.result.answer c.lookup_lending-looked.result.records c.lookup_lending-looked.ensures in
+    lends a.file.now c.read-loaded.result c.read-loaded.ensures c.if-loaded-ne0.false a.x a.y a.records.now _ refl
+    c.lookup_lending-looked.result.answer c.lookup_lending-looked.result.records c.lookup_lending-looked.ensures in
     let f = looked.finds a.answer.now a.count.now a.radius.now _ _ _ _ c.tell_answer.ensures in
     record { finds = f; records_after = looked.bytes _ _ c.put_records.ensures f.number }

@@ -31,7 +31,7 @@ returns-in_default c =
     let a = c.args in
     let s = state_of a.s in
     let t = turn s a.locations.now c.loop-i.i (omega arith) c.loop-i.invariant.2 c.coordinate-x.result c.coordinate-y.result c.coordinate-x.ensures c.coordinate-y.ensures
-        c.lookup-found.result (c.lookup-found.ensures.value, c.lookup-found.ensures.rounded) in
+    c.lookup-found.result (c.lookup-found.ensures.value, c.lookup-found.ensures.rounded) in
     absurd (not_refused t.here c.in_default.is)
 
 pub loop-i-preserved : goal.loop-i-preserved
@@ -39,7 +39,7 @@ loop-i-preserved c =
     let a = c.args in
     let s = state_of a.s in
     let t = turn s a.locations.now c.loop-i.i (omega arith) c.loop-i.invariant.2 c.coordinate-x.result c.coordinate-y.result c.coordinate-x.ensures c.coordinate-y.ensures
-        c.lookup-found.result (c.lookup-found.ensures.value, c.lookup-found.ensures.rounded) in
+    c.lookup-found.result (c.lookup-found.ensures.value, c.lookup-found.ensures.rounded) in
     let m = c.loop-i in
     let i = m.i in
     let b = locations_in a.locations.now in
