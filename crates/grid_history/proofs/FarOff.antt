@@ -10,6 +10,7 @@ use lib.IntN.{ℤ, pos}
 use lib.ListN.{length, take, drop, get_or, get_or-append}
 use contract.Lifetimes.{Lfts}
 use denote.Ref.{Bor}
+use denote.MutBor.{MutBor}
 use Rattle.model.specs.Point.{Contents, State}
 use Rattle.model.specs.Extent.{settled}
 use Rattle.model.specs.Choice.{choice}
@@ -58,7 +59,7 @@ module _ (s : State) (g : Model-as-Grid) (d : List ℤ) where
 
 module _ {cs ds : List Call} {s t : Survey} (one : Runs cs s) (other : Runs ds t) (alike : Alike (present cs) (present ds)) (g : Grid) where
   -- of `grid::cells`, lent cells of one number: what is told
-  pub fillings_same : (κs κs' : Lfts 1) (out left out' left' : Bor (List ℤ)) (a b : Filled)
+  pub fillings_same : (κs κs' : Lfts 1) (out left out' left' : MutBor (List ℤ)) (a b : Filled)
       → Cells-of.Post κs (s, (g, (out, tt))) a (s, (g, (left, tt))) → Cells-of.Post κs' (t, (g, (out', tt))) b (t, (g, (left', tt)))
       → length out.now ≡ length out'.now → a ≡ b
   fillings_same κs κs' out left out' left' a b h k e =
@@ -73,7 +74,7 @@ module _ {cs ds : List Call} {s t : Survey} (one : Runs cs s) (other : Runs ds t
     inside = omega (arith, row_within (grid_of g) r row)
 
     -- of `grid::cells`: the cell in what was lent
-    pub cells_same : (κs κs' : Lfts 1) (out left out' left' : Bor (List ℤ)) (n m : ℕ)
+    pub cells_same : (κs κs' : Lfts 1) (out left out' left' : MutBor (List ℤ)) (n m : ℕ)
         → Cells-of.Post κs (s, (g, (out, tt))) (Cells n) (s, (g, (left, tt))) → Cells-of.Post κs' (t, (g, (out', tt))) (Cells m) (t, (g, (left', tt)))
         → (z : ℤ) → get_or left.now index z ≡ get_or left'.now index z
     cells_same κs κs' out left out' left' n m h k z =
@@ -85,7 +86,7 @@ module _ {cs ds : List Call} {s t : Survey} (one : Runs cs s) (other : Runs ds t
         ∙ sym (filled_at (settled (present ds)) (grid_of g) out'.now m (sym v.0) index z inside))
 
     -- of `grid::write`: the cell as it is read from the file
-    pub files_same : (κs κs' : Lfts 1) (out left out' left' : Bor (List ℕ)) (n m : ℕ) → TwoBytes (grid_of g)
+    pub files_same : (κs κs' : Lfts 1) (out left out' left' : MutBor (List ℕ)) (n m : ℕ) → TwoBytes (grid_of g)
         → write-of.Post κs (s, (g, (out, tt))) (Length n) (s, (g, (left, tt))) → write-of.Post κs' (t, (g, (out', tt))) (Length m) (t, (g, (left', tt)))
         → (z : ℤ) → get_or (cells_of_file (take n left.now)) index z ≡ get_or (cells_of_file (take m left'.now)) index z
     files_same κs κs' out left out' left' n m small h k z =
@@ -94,7 +95,7 @@ module _ {cs ds : List Call} {s t : Survey} (one : Runs cs s) (other : Runs ds t
         rw (u.cells, v.cells) (cell_same (present cs) (present ds) alike (grid_of g) c r column row spared z)
 
     -- of `esri::write`: the cell as it is read from the text, whose rows go down
-    pub texts_same : (κs κs' : Lfts 1) (out left out' left' : Bor (List ℕ)) (n m : ℕ)
+    pub texts_same : (κs κs' : Lfts 1) (out left out' left' : MutBor (List ℕ)) (n m : ℕ)
         → text_of.Post κs (s, (g, (out, tt))) (Length n) (s, (g, (left, tt))) → text_of.Post κs' (t, (g, (out', tt))) (Length m) (t, (g, (left', tt)))
         → let line : ℕ = (grid_of g).rows - 1 - r in get_or (get_or (cells_read (take n left.now)) line []) c none ≡ get_or (get_or (cells_read (take m left'.now)) line []) c none
     texts_same κs κs' out left out' left' n m h k =
@@ -111,7 +112,7 @@ module _ {cs ds : List Call} {s t : Survey} (one : Runs cs s) (other : Runs ds t
 -- the value at (u, v) is mended, or the change refused: a cell at whose location that point is not chosen is the number that it was
 pub cells_mended : {cs : List Call} {s t : Survey} (u v : ℕ) (z : ℤ) → Runs cs s → Makes (Change u v z) s t
     → (g : Grid) (c r : ℕ) → c < (grid_of g).columns → r < (grid_of g).rows → taken u v (choice (settled (present cs)) (cell_location (grid_of g) c r)).points ≡ false
-    → (κs κs' : Lfts 1) (out left out' left' : Bor (List ℤ)) (n m : ℕ)
+    → (κs κs' : Lfts 1) (out left out' left' : MutBor (List ℤ)) (n m : ℕ)
     → Cells-of.Post κs (s, (g, (out, tt))) (Cells n) (s, (g, (left, tt))) → Cells-of.Post κs' (t, (g, (out', tt))) (Cells m) (t, (g, (left', tt)))
     → (d : ℤ) → get_or left.now ((grid_of g).columns * r + c) d ≡ get_or left'.now ((grid_of g).columns * r + c) d
 cells_mended {cs} {s} {t} u v z h m g c r column row unchosen =

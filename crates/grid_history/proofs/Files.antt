@@ -6,6 +6,7 @@ use mathlib.Core.List.{List}
 use lib.ListN.{length, take}
 use contract.Lifetimes.{Lfts}
 use denote.Ref.{Bor}
+use denote.MutBor.{MutBor}
 use Rattle.model.specs.Point.{Contents}
 use Rattle.model.specs.Extent.{settled}
 use Rattle.model.specs.Calls.{Call, present}
@@ -52,7 +53,7 @@ module _ (g : Model-as-Grid) (q : Contents) (h : Invariant q.points) (d : List �
       rw front (grid_file_read (settled q) g h.sound (right_written (settled q) g n a w right) rules small)
 
 -- of `grid::write` after any list of calls, lent bytes that are `out` before it and `left` after it; a `Grid`'s numbers have two bytes each
-pub file_claimed : {cs : List Call} {s : Survey} → Runs cs s → (κs : Lfts 1) (g : Grid) (out left : Bor (List ℕ)) (a : Written)
+pub file_claimed : {cs : List Call} {s : Survey} → Runs cs s → (κs : Lfts 1) (g : Grid) (out left : MutBor (List ℕ)) (a : Written)
     → write-of.Post κs (s, (g, (out, tt))) a (s, (g, (left, tt)))
     → (n : ℕ) → a ≡ Length n → TwoBytes (grid_of g) → States (take n left.now) (grid_of g) (cells (settled (present cs)) (grid_of g))
 file_claimed {cs} h κs g out left a p =
