@@ -19,28 +19,28 @@ pub returns-then-no-ne0 : goal.returns-then-no-ne0
 returns-then-no-ne0 c =
     let a = c.args in
     let decided = c.esri_refusal-no.ensures (state_of a.s) (sym c.count.ensures.0) in
-    let h = text_refused (state_of a.s) (grid_of a.g) a.out.now c.esri_refusal-no.result decided c.if-no-ne0.true in
+    let h = text_refused (state_of a.s) (grid_of a.g) a.out.now c.esri_refusal-no.result decided (λ z. absurd (omega arith)) in
     record { value = h.0; out_after = h.1.0; written_right = h.1.1.0; text_fits = h.1.1.1 }
 
 pub cells-values-requires : goal.cells-values-requires
 cells-values-requires c =
     let a = c.args in
     let decided = c.esri_refusal-no.ensures (state_of a.s) (sym c.count.ensures.0) in
-    let p = esri_passes (grid_of a.g) (state_of a.s) 0 (sym decided ∙ c.if-no-ne0.false) in
+    let p = esri_passes (grid_of a.g) (state_of a.s) 0 (omega (arith, decided)) in
     (p.rules, p.some)
 
 pub slice_bounds-values-end : goal.slice_bounds-values-end
 slice_bounds-values-end c =
     let a = c.args in
     let decided = c.esri_refusal-no.ensures (state_of a.s) (sym c.count.ensures.0) in
-    let p = esri_passes (grid_of a.g) (state_of a.s) 0 (sym decided ∙ c.if-no-ne0.false) in
+    let p = esri_passes (grid_of a.g) (state_of a.s) 0 (omega (arith, decided)) in
     omega (arith, few_cells (grid_of a.g) p.rules, c.cell_count-n.ensures.0, c.cells-values.ensures.result_value.1)
 
 pub slice_bounds-put-end : goal.slice_bounds-put-end
 slice_bounds-put-end c =
     let a = c.args in
     let decided = c.esri_refusal-no.ensures (state_of a.s) (sym c.count.ensures.0) in
-    let p = esri_passes (grid_of a.g) (state_of a.s) 0 (sym decided ∙ c.if-no-ne0.false) in
+    let p = esri_passes (grid_of a.g) (state_of a.s) 0 (omega (arith, decided)) in
     sym (length-take-le c.cell_count-n.result c.cells-values.result (omega (arith, few_cells (grid_of a.g) p.rules, c.cell_count-n.ensures.0, c.cells-values.ensures.result_value.1)))
 
 pub put-requires : goal.put-requires
@@ -48,7 +48,7 @@ put-requires c =
     let a = c.args in
     let g = grid_of a.g in
     let decided = c.esri_refusal-no.ensures (state_of a.s) (sym c.count.ensures.0) in
-    let rules = (esri_passes (grid_of a.g) (state_of a.s) 0 (sym decided ∙ c.if-no-ne0.false)).rules in
+    let rules = (esri_passes (grid_of a.g) (state_of a.s) 0 (omega (arith, decided))).rules in
     let few = few_cells g rules in
     let e = length-take-le c.cell_count-n.result c.cells-values.result (omega (arith, few, c.cell_count-n.ensures.0, c.cells-values.ensures.result_value.1)) in
     ((proper_axes g rules).0.some, e ∙ c.cell_count-n.ensures.0, omega (arith, e, c.cell_count-n.ensures.0, few))
@@ -64,5 +64,5 @@ returns c =
     let v = c.cells-values in
     let same = ap (λ (k : ℕ). take k v.result) n.ensures.0 ∙ v.ensures.result_value.0 in
     let put = subst (λ (l : List ℤ). TextPut (text_of_cells g l) a.out.now c.put.result c.put.new.out) same c.put.ensures in
-    let h = text_decides s g a.out.now (sym decided ∙ c.if-no-ne0.false) v.ensures.cells_right c.put.result c.put.new.out put in
+    let h = text_decides s g a.out.now (omega (arith, decided)) v.ensures.cells_right c.put.result c.put.new.out put in
     record { value = h.0; out_after = h.1.0; written_right = h.1.1.0; text_fits = h.1.1.1 }
