@@ -37,6 +37,10 @@ pub answer_length : (s : State) (p : Location) → length (answer_bytes s p) ≡
 unfolding answer_bytes
 answer_length s p = refl
 
+-- what a list m holds once r, which is b, was copied to its front
+pub copied : (b r m o : List ℕ) → r ≡ b → o ≡ take (length r) r ++ drop (length r) m → o ≡ laid b m
+copied b r m o e h = rw (h, take-length r, e)
+
 module _ {s : State} {l : List Location} {i : ℕ} {q : Answer} (t : Turn s l i q) where
   pub found_fields : {a : ℤ} {n r : ℕ} → q ≡ Found a n r → answer_fields a n r ≡ answer_bytes s (get_or l i nowhere)
   unfolding answer_bytes

@@ -1,2 +1,3 @@
 -- The laws that the proofs here and in the survey share.
 pub mod Over
+pub mod Rows
