@@ -9,7 +9,6 @@ use mathlib.Core.Option.{none, some}
 use lib.IntN.{ℤ, pos}
 use lib.ListN.{length, take, drop, get_or, get_or-append}
 use contract.Lifetimes.{Lfts}
-use denote.Ref.{Bor}
 use denote.MutBor.{MutBor}
 use Rattle.model.specs.Point.{Contents, State}
 use Rattle.model.specs.Extent.{settled}

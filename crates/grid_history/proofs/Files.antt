@@ -5,7 +5,6 @@ use Prim.Native.Nat.{ℕ}
 use mathlib.Core.List.{List}
 use lib.ListN.{length, take}
 use contract.Lifetimes.{Lfts}
-use denote.Ref.{Bor}
 use denote.MutBor.{MutBor}
 use Rattle.model.specs.Point.{Contents}
 use Rattle.model.specs.Extent.{settled}

@@ -9,7 +9,7 @@ use lib.Seq.{take-append_seam}
 use Rattle.model.specs.Lists.{laid}
 use Rattle.model.specs.Point.{Contents, State}
 use Rattle.model.specs.Extent.{settled}
-use Rattle.model.specs.Grid.{cells, Grid as Model-as-Grid}
+use Rattle.model.specs.Grid.{Grid as Model-as-Grid}
 use Rattle.model.specs.Filling.{GivenRow, row_refusal, next_row, row_into, after_begin, after_row, Filling as Model-as-Filling}
 use Rattle.model.specs.RowCalls.{RowCall, NextRow, Session, session, after_row_call, given_by, session_after, rows_given}
 use Rattle.survey.specs.declared.Survey.{Survey}

@@ -4,13 +4,12 @@ use mathlib.Core.Path.{◌≡◌, refl, ◌∙◌}
 use Prim.Native.Nat.{◌*◌, ◌-◌, ◌<◌}
 use native.Mathlib.Omega.{arith}
 use mathlib.Core.List.{flat_map}
-use lib.ListN.{length, take, get_or}
+use lib.ListN.{length, take}
 use lib.Seq.{take_all}
 use mir.Syntax.{w16}
 use mir.Val.{SFits}
 use mir.Facts.{to_z-of_z}
 use borrow.Author.Rules.{rules}
-use Rattle.model.specs.Lists.{laid}
 use Rattle.model.specs.Mean.{Right}
 use Rattle.model.specs.Answer.{answer}
 use Rattle.laws.proofs.Stores.{laid_more}
@@ -19,7 +18,7 @@ use Rattle.survey.proofs.Looking.{not_refused}
 use Rattle.many_lookups.specs.Locations.{locations_in}
 use Rattle.many_lookups.specs.AnswersInto.{answer_bytes, answers_bytes}
 use Rattle.many_lookups.proofs.Turns.{nowhere, length_locations, all_more}
-use Rattle.many_lookups.proofs.Looked.{Turn, turn, answer_length, found_fields}
+use Rattle.many_lookups.proofs.Looked.{turn, answer_length, found_fields}
 use Rattle.many_lookups.proofs.fill.Goals as goal
 
 pub loop-i-init : goal.loop-i-init

@@ -1,13 +1,7 @@
 -- `refusal` meets its contract. The invariant: the first refusal of the lookups that are left is that of all.
-use mathlib.Core.Path.{◌≡◌, sym, ◌∙◌}
-use Prim.Native.Nat.{◌+◌, ◌-◌, min}
+use mathlib.Core.Path.{sym, ◌∙◌}
 use native.Mathlib.Omega.{arith}
-use lib.ListN.{length, drop}
 use borrow.Author.Tests.{eq-eqb, ne_eqb}
-use Rattle.model.specs.Point.{State}
-use Rattle.model.specs.Refusals.{or_else}
-use Rattle.many_lookups.specs.Locations.{locations_in}
-use Rattle.many_lookups.specs.AnswersInto.{first_refusal}
 use Rattle.many_lookups.proofs.Turns.{counted_from, none_left}
 use Rattle.many_lookups.proofs.refusal.Goals as goal
 

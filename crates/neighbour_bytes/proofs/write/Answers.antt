@@ -4,7 +4,6 @@ use mathlib.Core.List.{flat_map}
 use Prim.Native.Nat.{◌*◌, ◌-◌}
 use native.Mathlib.Omega.{arith}
 use lib.ListN.{length}
-use Rattle.model.specs.Lists.{laid}
 use Rattle.laws.proofs.Stores.{laid_more}
 use Rattle.neighbour_records.specs.Records.{no_record}
 use Rattle.neighbour_bytes.specs.Fields.{field_bytes, records_bytes}
