@@ -29,14 +29,15 @@ pub slice_bounds-fill-end-2 : goal.slice_bounds-fill-end-2
 slice_bounds-fill-end-2 c =
     let a = c.args in
     let no = c.refusal-no.ensures (state_of a.s) (sym c.count.ensures.0) in
-    sym (length-take-le _ _ (grid_fits (grid_of a.g) (state_of a.s) (length a.out.now) c.cell_count-n.result (sym no ∙ c.if-no-ne0.false)).2)
+    let f = grid_fits (grid_of a.g) (state_of a.s) (length a.out.now) c.cell_count-n.result (sym no ∙ c.if-no-ne0.false) in
+    sym (length-take-le _ _ (omega (arith, f.2)))
 
 pub fill-requires : goal.fill-requires
 fill-requires c =
     let a = c.args in
     let no = c.refusal-no.ensures (state_of a.s) (sym c.count.ensures.0) in
     let f = grid_fits (grid_of a.g) (state_of a.s) (length a.out.now) c.cell_count-n.result (sym no ∙ c.if-no-ne0.false) in
-    (f.0, f.1, length-take-le _ _ f.2 ∙ c.cell_count-n.ensures.0)
+    (f.0, f.1, length-take-le _ _ (omega (arith, f.2)) ∙ c.cell_count-n.ensures.0)
 
 pub returns : goal.returns
 unfolding grid_refusal

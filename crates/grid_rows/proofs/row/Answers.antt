@@ -25,14 +25,14 @@ pub slice_bounds-fill_row-end-2 : goal.slice_bounds-fill_row-end-2
 slice_bounds-fill_row-end-2 c =
     let a = c.args in
     let p = row_passed a.f (length a.out.now) (sym c.row_refusal-no.ensures ∙ c.if-no-ne0.false) in
-    sym (length-take-le _ _ p.2)
+    sym (length-take-le _ _ (omega (arith, p.2)))
 
 pub fill_row-requires : goal.fill_row-requires
 fill_row-requires c =
     let a = c.args in
     let p = row_passed a.f (length a.out.now) (sym c.row_refusal-no.ensures ∙ c.if-no-ne0.false) in
     let f = grid_fits (grid_of a.f.grid) (state_of a.f.survey) 0 0 p.0 in
-    (f.0, f.1, p.1, length-take-le _ _ p.2)
+    (f.0, f.1, p.1, length-take-le _ _ (omega (arith, p.2)))
 
 pub overflow_add-t : goal.overflow_add-t
 overflow_add-t c =
