@@ -10,9 +10,9 @@ from collections.abc import Iterator
 # A crate of crates.txt is on the public face, or below it, where a function may ask something of
 # its callers, or a program, which nobody calls.
 FACE = """
-    survey_file survey lending history grid grid_reading grid_rows esri grid_history grid_program
-    esri_program many_lookups whole_files file_edits file_lookups file_neighbours file_grids
-    grid_files shepard root_c
+    refusal survey_file survey lending history grid grid_reading grid_rows esri grid_history
+    grid_program esri_program many_lookups whole_files file_edits file_lookups file_neighbours
+    file_grids grid_files shepard root_c
 """
 BELOW = """
     model laws numbers relative_error floats root digits point_arrays shift locate polygon extent

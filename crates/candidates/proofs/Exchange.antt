@@ -1,5 +1,5 @@
 -- A key that goes along an ascending list, exchanged for each greater one, is put where it belongs; and a list of first keys stays ascending.
-use mathlib.Core.Path.{◌≡◌, refl, sym, ap, ◌∙◌}
+use mathlib.Core.Path.{◌≡◌, refl, ap}
 use Prim.Native.Nat.{ℕ, zero, suc, ◌+◌, ◌≤◌, ◌<◌, min, max}
 use native.Mathlib.Numerals.{add-one}
 use native.Mathlib.Omega.{arith}
@@ -7,7 +7,7 @@ use mathlib.Core.Bool.{Bool, true, false, cond}
 use mathlib.Core.List.{List, [], ◌∷◌, ◌++◌}
 use lib.Dec.{ltb}
 use lib.ListN.{length, take, drop, get_or, set, replicate}
-use lib.Seq.{drop-cons, take-suc-set, drop-set-lt, append_snoc, take_all, take_at}
+use lib.Seq.{drop-cons, take-suc-set, drop-set-lt, append_snoc}
 use borrow.Author.Tests.{ltb-true, ltb-false}
 use Rattle.model.specs.Lists.{All}
 use Rattle.model.specs.Order.{insert}
@@ -53,11 +53,6 @@ putting_more a k c l g h up el eg =
       rw (add-one, take-suc-set a k l h, drop-set-lt (suc k) a k l (omega arith), append_snoc, el, eg, exchanged (get_or a k 0) c (drop (suc k) a) rest, split),
       rw (add-one, drop-set-lt (suc k) a k l (omega arith)) rest.1,
     )
-
-pub putting_end : (a : List ℕ) (n k c : ℕ) (m : List ℕ) → length a ≡ n → n ≤ k → putting_in k c a ≡ m → a ≡ take n m
-unfolding insert
-putting_end a n k c m len h e =
-    sym (take_at a (insert ltb c (drop k a)) n len) ∙ ap (take n) (rw (take_all k a (omega arith)) at e)
 
 pairs_take : (n : ℕ) (l : List ℕ) → Ascending l → Ascending (take n l)
 unfolding Ascending

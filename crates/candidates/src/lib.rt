@@ -1,7 +1,7 @@
 // The first points in order, of those within a limit, up to eleven: ten that may be chosen, and the first one left out.
 #![tactic(auto)]
 
-ghost use Rattle.std.specs.Prelude.{◌≡◌, map, ℕ, ◌<◌, ◌≤◌, min, max, ltb, length, take, get_or, true};
+ghost use Rattle.std.specs.Prelude.{◌≡◌, map, ℕ, ◌<◌, ◌≤◌, ltb, length, take, get_or, true};
 ghost use Rattle.model.specs.Lists.{All};
 ghost use Rattle.model.specs.Order.{insert};
 ghost use Rattle.model.specs.Distance.{distance_of};
@@ -37,7 +37,7 @@ fn key_of(squared: u32, x: u16, y: u16, i: u8) -> u64
     requires { (x < 4096) × (y < 4096) }
     ensures { result ≡ key_of squared x y i }
 {
-    ((squared as u64 * 4096 + x as u64) * 4096 + y as u64) * 256 + i as u64
+    ((u64::from(squared) * 4096 + u64::from(x)) * 4096 + u64::from(y)) * 256 + u64::from(i)
 }
 
 // The key of the point at index i.
@@ -45,25 +45,13 @@ fn key_at<'a>(xs: &'a [u16; 256], ys: &'a [u16; 256], squares: &'a [u32], i: u8)
     requires { i < length squares.now }
     ensures { result ≡ key_at xs.now ys.now squares.now i }
 {
-    let k = i as usize;
+    let k = usize::from(i);
     key_of(
         squares[k],
         point_arrays::coordinate(xs[k]),
         point_arrays::coordinate(ys[k]),
         i,
     )
-}
-
-fn lesser(a: u64, b: u64) -> u64
-    ensures { result ≡ min a b }
-{
-    if a < b { a } else { b }
-}
-
-fn greater(a: u64, b: u64) -> u64
-    ensures { result ≡ max a b }
-{
-    if a < b { b } else { a }
 }
 
 // The first eleven of the keys held and one more: it goes along and is exchanged for each greater one, so that no branch turns on a key.
@@ -73,12 +61,10 @@ fn put(keys: [u64; 11], key: u64) -> [u64; 11]
 {
     let mut a = keys;
     let mut c = key;
-    let mut k: usize = 0;
-    while k < 11 {
-        let t = a[k];
-        a[k] = lesser(t, c);
-        c = greater(t, c);
-        k += 1;
+    for held in a.iter_mut() {
+        let t = *held;
+        *held = t.min(c);
+        c = t.max(c);
     }
     a
 }
@@ -94,11 +80,9 @@ fn first_keys<'a>(
     ensures { result ≡ first_keys xs.now ys.now squares.now at.now }
 {
     let mut keys = [u64::MAX; 11];
-    let mut j: usize = 0;
-    while j < at.len() {
-        let next = put(keys, key_at(xs, ys, squares, at[j]));
+    for i in at {
+        let next = put(keys, key_at(xs, ys, squares, *i));
         keys = next;
-        j += 1;
     }
     keys
 }
@@ -114,10 +98,8 @@ fn squares_of(keys: [u64; 11]) -> [u32; 12]
     ensures { (i : ℕ) → i < 11 → get_or result i 0 ≡ squared_of (get_or keys i 0) }
 {
     let mut squares = [0u32; 12];
-    let mut j: usize = 0;
-    while j < 11 {
-        squares[j] = squared_of(keys[j]);
-        j += 1;
+    for (j, key) in keys.iter().enumerate() {
+        squares[j] = squared_of(*key);
     }
     squares
 }
@@ -132,7 +114,7 @@ fn candidate_of(zs: &[i8; 256], key: u64, distance: u32) -> Candidate
         x: (key / X_UNIT % 4096) as u16,
         y: (key / Y_UNIT % 4096) as u16,
         z: zs[i],
-        distance: distance,
+        distance,
     }
 }
 
@@ -150,18 +132,10 @@ fn of_keys(zs: &[i8; 256], keys: [u64; 11], n: usize) -> [Candidate; 11]
     let squares = squares_of(keys);
     let d = root::distances(&squares, n);
     let mut items = [e; 11];
-    let mut j: usize = 0;
-    while j < n {
+    for j in 0..n {
         items[j] = candidate_of(zs, keys[j], d[j]);
-        j += 1;
     }
     items
-}
-
-fn at_most_11(n: usize) -> usize
-    ensures { result ≡ min 11 n }
-{
-    if n < 11 { n } else { 11 }
 }
 
 // The first in order of the points whose squared distances are within the limit.
@@ -180,7 +154,7 @@ pub fn first<'a>(
     let mut at = [0u8; 256];
     let found = squares::indices_within(squares, limit, &mut at);
     let keys = first_keys(xs, ys, squares, &at[..found]);
-    let n = at_most_11(found);
+    let n = found.min(11);
     Candidates {
         items: of_keys(zs, keys, n),
         count: n,

@@ -1,3 +1,4 @@
 -- Facts that the proofs of this crate share.
-pub mod Turns
+pub mod Powers
 pub mod Lines
+pub mod Signs

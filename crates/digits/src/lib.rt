@@ -12,23 +12,15 @@ pub fn places(n: u64) -> usize
     ensures value { result ≡ places_of n }
     ensures upper_bound { result ≤ 20 }
 {
-    let mut k = 1usize;
-    let mut rest = n;
-    while 10 <= rest {
-        rest /= 10;
-        k += 1;
-    }
-    k
+    n.max(1).ilog10() as usize + 1
 }
 
 // Fills the lent bytes with the last decimal digits of n, and zeros before them.
 pub fn spell(n: u64, out: &mut [u8])
     ensures { out.new ≡ digits_of (length out.old) n }
 {
-    let mut i = out.len();
     let mut rest = n;
-    while 0 < i {
-        i -= 1;
+    for i in (0..out.len()).rev() {
         out[i] = b'0' + (rest % 10) as u8;
         rest /= 10;
     }
@@ -103,11 +95,7 @@ pub fn hexadecimal(s: &[u8], out: &mut [u8])
     requires { 2 * length s.now ≤ length out.old }
     ensures { out.new ≡ laid (hexadecimal_of s.now) out.old }
 {
-    let mut i = 0usize;
-    while i < s.len() {
-        let b = hex_pair(s[i]);
-        let at = 2 * i;
-        numbers::copy(&b, &mut out[at..]);
-        i += 1;
+    for (i, b) in s.iter().enumerate() {
+        numbers::copy(&hex_pair(*b), &mut out[2 * i..]);
     }
 }

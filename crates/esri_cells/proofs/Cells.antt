@@ -17,7 +17,7 @@ use Rattle.model.specs.Esri.{size_text, cell_text}
 use Rattle.laws.proofs.Stores.{length_laid}
 use Rattle.laws.proofs.Writing.{Writing, none_written, first_written, all_written, write_piece, write_over, write_one}
 use Rattle.laws.proofs.DecimalLaws.{places_most, length_digits}
-use Rattle.numbers.proofs.Signs.{below_zero, from_zero}
+use Rattle.digits.proofs.Signs.{below_zero, from_zero}
 
 module _ {z : ℤ} (f : SFits w16 z) (n : ℕ) (e : n ≡ nat_abs (to_z w16 (of_z w16 z))) where
   pub below : lt_z (to_z w16 (of_z w16 z)) (pos 0) ≡ true → cell_text z ≡ 45 ∷ size_text n

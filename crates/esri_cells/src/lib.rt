@@ -22,11 +22,9 @@ pub fn cells_length(values: &[i16]) -> usize
     requires { length values.now ≤ 4096 }
     ensures { (result ≡ cells_length values.now) × (result ≤ 57344) }
 {
-    let mut sum = 0usize;
-    let mut i = 0usize;
-    while i < values.len() {
-        sum += cell_length(values[i]) + 1;
-        i += 1;
+    let mut sum = 0;
+    for v in values {
+        sum += cell_length(*v) + 1;
     }
     sum
 }
@@ -72,13 +70,10 @@ pub fn put_row(values: &[i16], out: &mut [u8]) -> usize
     ensures value { result ≡ length (row_line values.now) + 1 }
     ensures out_after { out.new ≡ laid (row_line values.now ++ (10 ∷ [])) out.old }
 {
-    let mut at = 0usize;
-    let mut i = 0usize;
-    while i < values.len() {
-        let k = put_cell(values[i], &mut out[at..]);
-        at += k;
-        i += 1;
-        out[at] = separator(values.len() - i);
+    let mut at = 0;
+    for (i, v) in values.iter().enumerate() {
+        at += put_cell(*v, &mut out[at..]);
+        out[at] = separator(values.len() - i - 1);
         at += 1;
     }
     at

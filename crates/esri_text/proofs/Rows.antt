@@ -74,11 +74,10 @@ text_put g l d out at k e f h room =
     let two = write_over one rows [] (sym (append-nil rows)) k h in
     rw f ((all_written two refl).0 ∙ laid_whole (header ++ rows) d (omega (arith, length-append header rows, parts_size g l)) ∙ sym (text_parts g l))
 
--- a turn of `put_rows` with r rows left, whose lines are what is left to write
-pub record Turn (g : Grid) (l : List ℤ) (d : List ℕ) (r at : ℕ) (out : List ℕ) : Type 0 where
+-- with r rows left, whose lines are what is left to write
+pub record Left (g : Grid) (l : List ℤ) (d : List ℕ) (r at : ℕ) (out : List ℕ) : Type 0 where
   pub all : OfCells g l
   pub room : length (rows_text g l) ≡ length d
-  pub some : 0 < r
   pub few : r ≤ g.rows
   pub size : length out ≡ length d
   pub written : Writing (rows_text g l) d (left_rows g.columns l r) at out
@@ -87,10 +86,16 @@ pub record Turn (g : Grid) (l : List ℤ) (d : List ℕ) (r at : ℕ) (out : Lis
 abbrev pub row_next : Grid → List ℤ → ℕ → List ℤ
 row_next g l r = take g.columns (drop (g.columns * (r - 1)) l)
 
--- it is there and has cells, its line has room, and the others are left after it
-module _ {g : Grid} {l : List ℤ} {d : List ℕ} {r at : ℕ} {out : List ℕ} (t : Turn g l d r at out) where
+-- none is left: the list holds them all
+pub rows_done : {g : Grid} {l : List ℤ} {d : List ℕ} {r at : ℕ} {out : List ℕ} → Left g l d r at out → r ≡ 0 → out ≡ rows_text g l
+rows_done {g = g} {l = l} {d = d} t none =
+    let done = all_written t.written (ap (left_rows g.columns l) none ∙ none_left g.columns l) in
+    done.0 ∙ laid_whole (rows_text g l) d (omega (arith, t.room))
+
+-- one is left: it is there and has cells, its line has room, and the others are left after it
+module _ {g : Grid} {l : List ℤ} {d : List ℕ} {r at : ℕ} {out : List ℕ} (t : Left g l d r at out) (some : 0 < r) where
   pub row_there : (g.columns * (r - 1) + g.columns ≤ length l) × (length l ≤ 4096)
-  row_there = let h = t.some in let k = t.few in (omega (arith, row_within g (r - 1) (omega arith), t.all.1), t.all.2)
+  row_there = let k = t.few in (omega (arith, row_within g (r - 1) (omega arith), t.all.1), t.all.2)
 
   pub row_some : 0 < length (row_next g l r)
   row_some =
@@ -101,7 +106,7 @@ module _ {g : Grid} {l : List ℤ} {d : List ℕ} {r at : ℕ} {out : List ℕ} 
   line_next = row_line (row_next g l r) ++ (10 ∷ [])
 
   next : left_rows g.columns l r ≡ line_next ++ left_rows g.columns l (r - 1)
-  next = let h = t.some in let e : r ≡ suc (r - 1) = omega arith in ap (left_rows g.columns l) e ∙ row_first g.columns l (r - 1)
+  next = let e : r ≡ suc (r - 1) = omega arith in ap (left_rows g.columns l) e ∙ row_first g.columns l (r - 1)
 
   line_size : length line_next ≡ length (row_line (row_next g l r)) + 1
   line_size = length-append (row_line (row_next g l r)) (10 ∷ [])
@@ -111,7 +116,14 @@ module _ {g : Grid} {l : List ℤ} {d : List ℕ} {r at : ℕ} {out : List ℕ} 
 
   -- what the list holds then
   pub row_put : (k n : ℕ) (is : List ℕ) → length out ≤ at + k → n ≡ length (row_line (row_next g l r)) + 1 → is ≡ laid line_next (mid_of at k out)
-      → (length (put_mid at k out is) ≡ length d) × Writing (rows_text g l) d (left_rows g.columns l (r - 1)) (at + n) (put_mid at k out is)
+      → Left g l d (r - 1) (at + n) (put_mid at k out is)
   row_put k n is h e f =
+      let few = t.few in
       let w = write_piece t.written line_next (left_rows g.columns l (r - 1)) next n (line_size ∙ sym e) k (omega (arith, t.size)) in
-      rw f (same_size w (omega (arith, row_room, t.size)), w)
+      record {
+        all = t.all;
+        room = t.room;
+        few = omega arith;
+        size = rw f (same_size w (omega (arith, row_room, t.size)));
+        written = rw f w;
+      }

@@ -15,7 +15,7 @@ use grid_rules::Grid;
 fn places_of(n: u16) -> usize
     ensures { (result ≡ places n) × (result ≤ 5) }
 {
-    digits::places(n as u64)
+    digits::places(u64::from(n))
 }
 
 // The keywords, the spaces after them, `-9999` and the line feeds are 65 bytes.
@@ -41,8 +41,7 @@ fn put_line(keyword: &[u8], n: u16, out: &mut [u8], at: usize) -> usize
     ensures value { result ≡ at + length (line_of keyword.now n) }
     ensures out_after { out.new ≡ laid_at at (line_of keyword.now n) out.old }
 {
-    let k = digits::line(keyword, n as u64, &mut out[at..]);
-    at + k
+    at + digits::line(keyword, u64::from(n), &mut out[at..])
 }
 
 // The header's six lines, and how many bytes they take; the last one is of cells with no data, of which there are none.
@@ -64,15 +63,11 @@ fn put_rows(g: Grid, values: &[i16], out: &mut [u8])
     requires { OfCells (grid_of g) values.now × (length (rows_text (grid_of g) values.now) ≡ length out.old) }
     ensures { out.new ≡ rows_text (grid_of g) values.now }
 {
-    let columns = g.columns as usize;
-    let mut at = 0usize;
-    let mut r = g.rows as usize;
-    while 0 < r {
-        r -= 1;
+    let columns = usize::from(g.columns);
+    let mut at = 0;
+    for r in (0..usize::from(g.rows)).rev() {
         let first = columns * r;
-        let end = first + columns;
-        let k = esri_cells::put_row(&values[first..end], &mut out[at..]);
-        at += k;
+        at += esri_cells::put_row(&values[first..first + columns], &mut out[at..]);
     }
 }
 

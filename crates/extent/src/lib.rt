@@ -1,7 +1,7 @@
 // What is kept of the points: the ends of their coordinates and of their values, and the initial radius R0, over lent arrays and a count: document 02, §1.
 #![tactic(auto)]
 
-ghost use Rattle.std.specs.Prelude.{◌≡◌, List, [], ◌∷◌, ◌++◌, ◌^◌, ◌<◌, ◌≤◌, min, max, length};
+ghost use Rattle.std.specs.Prelude.{◌≡◌, List, [], ◌∷◌, ◌++◌, ◌^◌, ◌<◌, ◌≤◌, min, length};
 ghost use Rattle.model.specs.Point.{Point, point, contents_of};
 ghost use Rattle.model.specs.Extent.{extent_of};
 ghost use Rattle.point_arrays.specs.PointArrays.{points_in};
@@ -23,22 +23,11 @@ pub struct Extent {
 pub fn clamped(radius: u32) -> u32
     ensures { result ≡ min radius (2 ^ 24) }
 {
-    if radius < 1 << 24 { radius } else { 1 << 24 }
-}
-
-fn least(a: u16, b: u16) -> u16
-    ensures { result ≡ min a b }
-{
-    if a < b { a } else { b }
-}
-
-fn greatest(a: u16, b: u16) -> u16
-    ensures { result ≡ max a b }
-{
-    if a < b { b } else { a }
+    radius.min(1 << 24)
 }
 
 // The extent of no point.
+#[tactic(auto, using(laws::proofs::ExtentLaws::ends_none))]
 pub fn zeros() -> Extent
     ensures { (as_extent result ≡ extent_of (contents_of [])) × (result.radius ≤ 2 ^ 24) }
 {
@@ -54,6 +43,7 @@ pub fn zeros() -> Extent
 }
 
 // The ends of one point; R0 is worked out when all points are seen.
+#[tactic(auto, unfolding(model::specs::Lists::through, model::specs::Extent::values_by))]
 fn ends_at(x: u16, y: u16, z: i8) -> Extent
     ensures { EndsOf (point x y z ∷ []) result }
 {
@@ -73,10 +63,10 @@ fn widened(e: Extent, x: u16, y: u16, z: i8) -> Extent
     ensures { (l : List Point) → 0 < length l → EndsOf l e → EndsOf (l ++ (point x y z ∷ [])) result }
 {
     Extent {
-        least_x: least(e.least_x, x),
-        greatest_x: greatest(e.greatest_x, x),
-        least_y: least(e.least_y, y),
-        greatest_y: greatest(e.greatest_y, y),
+        least_x: e.least_x.min(x),
+        greatest_x: e.greatest_x.max(x),
+        least_y: e.least_y.min(y),
+        greatest_y: e.greatest_y.max(y),
         least_z: numbers::lesser(e.least_z, z),
         greatest_z: numbers::greater(e.greatest_z, z),
         radius: e.radius,
@@ -93,15 +83,13 @@ fn ends_of<'a>(xs: &'a [u16; 256], ys: &'a [u16; 256], zs: &'a [i8; 256], m: usi
         point_arrays::coordinate(ys[0]),
         zs[0],
     );
-    let mut i: usize = 1;
-    while i < m {
+    for i in 1..m {
         e = widened(
             e,
             point_arrays::coordinate(xs[i]),
             point_arrays::coordinate(ys[i]),
             zs[i],
         );
-        i += 1;
     }
     e
 }

@@ -1,45 +1,53 @@
-// How the functions over a survey file's bytes read the file, write one, and tell what came of a call.
+// How the functions over a survey file's bytes read the file, write one, and tell what came of a call. They answer the refusal's number, as the functions that C calls do.
 #![tactic(auto)]
 
 ghost use Rattle.survey.specs.StateOf.{contents_in};
+ghost use Rattle.refusal.specs.Numbered.{code, numbered};
 ghost use Rattle.file_access.specs.Access.{Reads, LengthTold, AnswerTold, Writes};
 
-use survey::{Answer, Reply, Survey};
-use survey_file::Written;
+use refusal::Refusal;
+use survey::{Found, Survey};
 
 // The survey of a file: refusals 9 to 15.
-pub fn read(file: &[u8]) -> Reply
+pub fn read(file: &[u8]) -> Result<Survey, Refusal>
     ensures { Reads file.now result }
 {
-    survey::load(survey::fresh(), file)
+    let mut s = survey::fresh();
+    survey::load(&mut s, file)?;
+    Ok(s)
 }
 
 // The length of a written file to the lent number, or why none is written.
-pub fn tell_length(w: Written, length: &mut usize) -> u8
-    ensures { LengthTold w length.old result length.new }
+pub fn tell_length(w: Result<usize, Refusal>, length: &mut usize) -> u8
+    ensures { LengthTold (numbered w) length.old result length.new }
 {
     match w {
-        Written::Length(n) => {
+        Ok(n) => {
             *length = n;
             0
         }
-        Written::Refused(no) => no,
+        Err(e) => e.number(),
     }
 }
 
 // An answer's numbers to the lent ones, or why there is none.
-pub fn tell_answer(a: Answer, answer: &mut i16, count: &mut usize, radius: &mut u32) -> u8
-    ensures { AnswerTold a answer.old count.old radius.old
+pub fn tell_answer(
+    a: Result<Found, Refusal>,
+    answer: &mut i16,
+    count: &mut usize,
+    radius: &mut u32,
+) -> u8
+    ensures { AnswerTold (numbered a) answer.old count.old radius.old
         result answer.new count.new radius.new }
 {
     match a {
-        Answer::Found(v, n, r) => {
-            *answer = v;
-            *count = n;
-            *radius = r;
+        Ok(f) => {
+            *answer = f.answer;
+            *count = f.count;
+            *radius = f.radius;
             0
         }
-        Answer::Refused(no) => no,
+        Err(e) => e.number(),
     }
 }
 
@@ -51,13 +59,13 @@ pub fn write(s: Survey, out: &mut [u8], length: &mut usize) -> u8
     tell_length(written, length)
 }
 
-// The same of a reply's survey: the reply's refusal, then 8.
-pub fn save(reply: Reply, out: &mut [u8], length: &mut usize) -> u8
-    ensures { Writes reply.refusal (contents_in reply.survey).points out.old length.old
+// The same of a survey that a call left: the call's refusal, then 8.
+pub fn save(called: Result<(), Refusal>, s: Survey, out: &mut [u8], length: &mut usize) -> u8
+    ensures { Writes (code called) (contents_in s).points out.old length.old
         result out.new length.new }
 {
-    if reply.refusal != 0 {
-        return reply.refusal;
+    match called {
+        Ok(()) => write(s, out, length),
+        Err(e) => e.number(),
     }
-    write(reply.survey, out, length)
 }

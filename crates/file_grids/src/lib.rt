@@ -1,4 +1,4 @@
-// Grids over a survey file's points, from bytes to bytes: the grid file, and the Esri ASCII grid.
+// Grids over a survey file's points, from bytes to bytes: the grid file, and the Esri ASCII grid. Answers and lent numbers are those that C asks for.
 #![tactic(auto)]
 
 ghost use Rattle.std.specs.Prelude.{◌≡◌};
@@ -35,11 +35,10 @@ pub fn grid_file(
     ensures { WritesGrid file.now (grid_from x0 y0 step_x step_y columns rows)
         out.old length.old result out.new length.new }
 {
-    let loaded = file_access::read(file);
-    if loaded.refusal != 0 {
-        return loaded.refusal;
-    }
-    let s = loaded.survey;
+    let s = match file_access::read(file) {
+        Ok(s) => s,
+        Err(e) => return e.number(),
+    };
     let g = grid_from(x0, y0, step_x, step_y, columns, rows);
     let written = grid::write(s, g, out);
     file_access::tell_length(written, length)
@@ -60,11 +59,10 @@ pub fn esri(
     ensures { WritesEsri file.now (grid_from x0 y0 step_x step_y columns rows)
         out.old length.old result out.new length.new }
 {
-    let loaded = file_access::read(file);
-    if loaded.refusal != 0 {
-        return loaded.refusal;
-    }
-    let s = loaded.survey;
+    let s = match file_access::read(file) {
+        Ok(s) => s,
+        Err(e) => return e.number(),
+    };
     let g = grid_from(x0, y0, step_x, step_y, columns, rows);
     let text = esri::write(s, g, out);
     file_access::tell_length(text, length)

@@ -10,6 +10,7 @@ use lib.IntN.{ℤ}
 use lib.ListN.{length, take, drop, length-take, length-map}
 use lib.Seq.{take-append_seam}
 use borrow.Author.Tests.{eqb-true, lt-ltb, le-ltb}
+use Rattle.std.specs.Prelude.{Result, Ok, Err}
 use Rattle.model.specs.Lists.{laid}
 use Rattle.model.specs.Point.{State, location}
 use Rattle.model.specs.Answer.{chosen_count, neighbours}
@@ -21,9 +22,8 @@ use Rattle.laws.proofs.ChosenLaws.{chosen_most}
 use Rattle.laws.proofs.CallLaws.{neighbours_accepted}
 use Rattle.neighbour_records.specs.declared.Record.{Record}
 use Rattle.neighbour_records.specs.Records.{record_of}
-use Rattle.survey.specs.declared.Reply.{Reply}
-use Rattle.survey.specs.declared.Answer.{Answer}
-use Rattle.survey.specs.declared.Answer.TheVariants.{Found, Refused}
+use Rattle.survey.specs.declared.Survey.{Survey}
+use Rattle.survey.specs.declared.Found.{Found}
 use Rattle.survey.specs.StateOf.{state_of}
 use Rattle.survey.specs.LookedUp.{found, found_unless, looked_up_lent, Rounded}
 use Rattle.neighbour_bytes.specs.Fields.{records_bytes}
@@ -33,12 +33,12 @@ use Rattle.file_lookups.specs.FileLookups.{Finds}
 use Rattle.file_lookups.proofs.Finding.{finds_answer}
 use Rattle.file_neighbours.specs.NeighbourBytes.{chosen_in, neighbour_bytes}
 
-pub chosen_found : (q : Answer) (a : ℤ) (n r : ℕ) → q ≡ Found a n r → chosen_in q ≡ n
+pub chosen_found : (q : Result Found ℕ) (f : Found) → q ≡ Ok f → chosen_in q ≡ f.count
 unfolding chosen_in
-chosen_found q a n r e = rw e
+chosen_found q f e = rw e refl
 
 -- refused, no bytes are written
-pub puts_none : (q : Answer) (n : ℕ) → q ≡ Refused n → (l : List Record) (d : List ℕ) → d ≡ laid (records_bytes (take (chosen_in q) l)) d
+pub puts_none : (q : Result Found ℕ) (n : ℕ) → q ≡ Err n → (l : List Record) (d : List ℕ) → d ≡ laid (records_bytes (take (chosen_in q) l)) d
 unfolding chosen_in records_bytes flat_map
 puts_none q n e l d = rw e
 
@@ -54,7 +54,7 @@ module _ (s : State) (x y k : ℕ) (l : List Record) (size : length l ≡ 32) wh
   unfolding neighbours_refusal
   lent_same = rw enough_same
 
-  lent_answer : (q : Answer) → q ≡ looked_up_lent s x y (length (take k l)) → q ≡ found_unless (neighbours_refusal x y k s) s (location x y)
+  lent_answer : (q : Result Found ℕ) → q ≡ looked_up_lent s x y (length (take k l)) → q ≡ found_unless (neighbours_refusal x y k s) s (location x y)
   unfolding looked_up_lent
   lent_answer q e = rw lent_same at e
 
@@ -70,41 +70,41 @@ module _ (s : State) (x y k : ℕ) where
   chosen_listed = rw (length-map, length-map)
 
   -- where the lookup is accepted there is room for ten records, and no more are chosen
-  lent_room : (q : Answer) → q ≡ found_unless u s (location x y) → (n : ℕ) → k ≡ n / 10 → (chosen_in q ≤ 32) × (10 * chosen_in q ≤ n)
+  lent_room : (q : Result Found ℕ) → q ≡ found_unless u s (location x y) → (n : ℕ) → k ≡ n / 10 → (chosen_in q ≤ 32) × (10 * chosen_in q ≤ n)
   unfolding chosen_in
   lent_room q e n h = rw e (by_test (eqb u 0) refl)
     where
-      by_test : (t : Bool) → eqb u 0 ≡ t → (chosen_in (cond t (found s (location x y)) (Refused u)) ≤ 32) × (10 * chosen_in (cond t (found s (location x y)) (Refused u)) ≤ n)
+      by_test : (t : Bool) → eqb u 0 ≡ t → (chosen_in (cond t (Ok (found s (location x y))) (Err u)) ≤ 32) × (10 * chosen_in (cond t (Ok (found s (location x y))) (Err u)) ≤ n)
       by_test true w = let a = (neighbours_accepted x y k s (eqb-true u 0 w)).1 in let m = chosen_most s (location x y) in (omega arith, omega arith)
       by_test false w = (omega arith, omega arith)
 
   -- the chosen points' records stand at the front of what was lent, and where the lookup is refused none is meant
-  lent_bytes : (q : Answer) → q ≡ found_unless u s (location x y) → (l o : List Record) → length l ≡ 32 → o ≡ neighbours_into record_of s x y (take k l) ++ drop k l
+  lent_bytes : (q : Result Found ℕ) → q ≡ found_unless u s (location x y) → (l o : List Record) → length l ≡ 32 → o ≡ neighbours_into record_of s x y (take k l) ++ drop k l
       → (d : List ℕ) → laid (records_bytes (take (chosen_in q) o)) d ≡ afterwards u (laid (records_bytes listed) d) d
   unfolding chosen_in neighbours_into records_bytes flat_map
   lent_bytes q e l o size h d = rw (e, h, lent_same s x y k l size) (by_test (eqb u 0))
     where
-      by_test : (t : Bool) → laid (records_bytes (take (chosen_in (cond t (found s (location x y)) (Refused u))) (cond t (laid listed (take k l)) (take k l) ++ drop k l))) d ≡ cond t (laid (records_bytes listed) d) d
+      by_test : (t : Bool) → laid (records_bytes (take (chosen_in (cond t (Ok (found s (location x y))) (Err u))) (cond t (laid listed (take k l)) (take k l) ++ drop k l))) d ≡ cond t (laid (records_bytes listed) d) d
       by_test true = rw (← chosen_listed, append_assoc, take-append_seam)
       by_test false = refl
 
 -- what a lookup in the points of the file f tells that was lent the bytes d: its answer q, and o, the records after it
-pub record Lends (f : List ℕ) (x y : ℕ) (d : List ℕ) (q : Answer) (o : List Record) : Type 0 where
+pub record Lends (f : List ℕ) (x y : ℕ) (d : List ℕ) (q : Result Found ℕ) (o : List Record) : Type 0 where
   pub room : (chosen_in q ≤ 32) × (10 * chosen_in q ≤ length d)
   pub finds : (a : ℤ) (n r m : ℕ) (a' : ℤ) (n' r' : ℕ) → AnswerTold q a n r m a' n' r' → Finds (neighbours_refusal x y (length d / 10)) f (location x y) a n r m a' n' r'
   pub bytes : (d' : List ℕ) (m : ℕ) → d' ≡ laid (records_bytes (take (chosen_in q) o)) d → m ≡ or_else (file_refusal f) (neighbours_refusal x y (length d / 10) (state_in f))
       → d' ≡ afterwards m (laid (neighbour_bytes f (location x y)) d) d
 
-pub lends : (f : List ℕ) (r : Reply) → Reads f r → r.refusal ≡ 0 → (x y : ℕ) (d : List ℕ) (l : List Record) → length l ≡ 32 → (q : Answer) (o : List Record)
-    → (q ≡ looked_up_lent (state_of r.survey) x y (length (take (length d / 10) l))) × Rounded (state_of r.survey) (location x y) q
-    × (o ≡ neighbours_into record_of (state_of r.survey) x y (take (length d / 10) l) ++ drop (length d / 10) l)
+pub lends : (f : List ℕ) (r : Survey) → Reads f (Ok r) → (x y : ℕ) (d : List ℕ) (l : List Record) → length l ≡ 32 → (q : Result Found ℕ) (o : List Record)
+    → (q ≡ looked_up_lent (state_of r) x y (length (take (length d / 10) l))) × Rounded (state_of r) (location x y) q
+    × (o ≡ neighbours_into record_of (state_of r) x y (take (length d / 10) l) ++ drop (length d / 10) l)
     → Lends f x y d q o
-lends f r reads z x y d l size q o h =
-    let held = state_of r.survey in
+lends f r reads x y d l size q o h =
+    let held = state_of r in
     let k = length d / 10 in
     let c = neighbours_refusal x y k in
     let here = lent_answer held x y k l size q h.0 in record {
       room = lent_room held x y k q here (length d) refl;
-      finds = λ a n v m a' n' v' t. finds_answer f r reads c (location x y) a n v z q here h.1 m a' n' v' t;
-      bytes = λ d' m w number. rw (number, accepted_file f r reads (c (state_in f)) z, ← reads.state z) (w ∙ lent_bytes held x y k q here l o size h.2 d);
+      finds = λ a n v m a' n' v' t. finds_answer f r reads c (location x y) a n v q here h.1 m a' n' v' t;
+      bytes = λ d' m w number. rw (number, accepted_file f r reads (c (state_in f)), ← reads.state) (w ∙ lent_bytes held x y k q here l o size h.2 d);
     }

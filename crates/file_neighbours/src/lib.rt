@@ -1,28 +1,26 @@
-// A lookup in the points of a survey file that gives the chosen points' records too, as bytes.
+// A lookup in the points of a survey file that gives the chosen points' records too, as bytes. Answers and lent numbers are those that C asks for.
 #![tactic(auto)]
 
 ghost use Rattle.std.specs.Prelude.{◌≡◌, ◌*◌, ◌/◌, ◌≤◌, length, take};
 ghost use Rattle.model.specs.Lists.{laid};
 ghost use Rattle.model.specs.Point.{location};
 ghost use Rattle.model.specs.Refusals.{neighbours_refusal, afterwards};
+ghost use Rattle.refusal.specs.Numbered.{numbered};
 ghost use Rattle.neighbour_bytes.specs.Fields.{records_bytes};
 ghost use Rattle.file_lookups.specs.FileLookups.{Finds};
 ghost use Rattle.file_neighbours.specs.NeighbourBytes.{chosen_in, neighbour_bytes};
 
 use lending::AnswerWithRecords;
-use survey::Answer;
 
 // The chosen points' records to the front of the lent bytes, in order of choice; none where the lookup is refused.
 fn put_records(looked: AnswerWithRecords, out: &mut [u8])
-    requires { (chosen_in looked.answer ≤ 32) × (10 * chosen_in looked.answer ≤ length out.old) }
-    ensures { out.new ≡ laid (records_bytes (take (chosen_in looked.answer) looked.records)) out.old }
+    requires { (chosen_in (numbered looked.answer) ≤ 32) × (10 * chosen_in (numbered looked.answer) ≤ length out.old) }
+    ensures { out.new ≡ laid (records_bytes (take (chosen_in (numbered looked.answer)) looked.records)) out.old }
 {
-    let found = looked.answer;
-    let Answer::Found(_, n, _) = found else {
+    let Ok(found) = looked.answer else {
         return;
     };
-    let list = looked.records;
-    neighbour_bytes::write(list, n, out);
+    neighbour_bytes::write(looked.records, found.count, out);
 }
 
 // The answer of `file_lookups::lookup`, and the chosen points' records as bytes, ten each, in order of choice: refusals 9 to 15, then 1, 6, 8.
@@ -41,14 +39,12 @@ pub fn lookup_neighbours(
     ensures records_after { records.new
         ≡ afterwards result (laid (neighbour_bytes file.now (location x y)) records.old) records.old }
 {
-    let loaded = file_access::read(file);
-    if loaded.refusal != 0 {
-        return loaded.refusal;
-    }
-    let s = loaded.survey;
+    let s = match file_access::read(file) {
+        Ok(s) => s,
+        Err(e) => return e.number(),
+    };
     let list = [survey::blank(); 32];
     let looked = lending::lookup_lending(s, x, y, list, records.len() / 10);
     put_records(looked, records);
-    let found = looked.answer;
-    file_access::tell_answer(found, answer, count, radius)
+    file_access::tell_answer(looked.answer, answer, count, radius)
 }

@@ -14,6 +14,7 @@ const TWO_52: f64 = 4503599627370496.0;
 const GUESSES: u64 = 1 << 25;
 
 // A whole number up to 2⁵³ as a float, exactly.
+#[tactic(auto, unfolding(model::specs::Computed::float))]
 pub fn to_float(n: u64) -> f64
     requires { n ≤ 2 ^ 53 }
     ensures { result ≡ float n }
@@ -22,6 +23,7 @@ pub fn to_float(n: u64) -> f64
 }
 
 // Whether a whole number is at most y, which is not negative.
+#[tactic(auto, using(relative_error::proofs::Compare::int_le_float))]
 fn at_most(m: u64, y: f64) -> bool
     requires { (m ≤ 2 ^ 53) × T (plain y) }
     ensures { result ≡ leb (m * den y) (num y) }
@@ -48,7 +50,7 @@ pub fn whole_part(y: f64) -> u64
     let mut low = 0u64;
     let mut high = GUESSES;
     let mut k = guess(y);
-    let w = loop {
+    loop {
         if at_most(k, y) {
             if !at_most(k + 1, y) {
                 break k;
@@ -58,11 +60,11 @@ pub fn whole_part(y: f64) -> u64
             high = k;
         }
         k = low + (high - low) / 2;
-    };
-    w
+    }
 }
 
 // The whole number nearest to half of y: to 256 times the mean, where y is 512 times the mean.
+#[tactic(auto, unfolding(model::specs::Answer::nearest_half))]
 pub fn nearest_half(y: f64) -> u64
     requires { T (plain y) × (num y < 2 ^ 22 * den y) }
     ensures { (result ≡ nearest_half y) × (result ≤ 2 ^ 21) }

@@ -3,19 +3,21 @@
 
 ghost use Rattle.std.specs.Prelude.{◌≡◌, true, ◌<◌, length, take};
 ghost use Rattle.model.specs.Grid.{proper, cell_count, cell_location, row, cells as cells_of};
+ghost use Rattle.refusal.specs.Numbered.{numbered};
 ghost use Rattle.grid_rules.specs.GridOf.{grid_of};
 ghost use Rattle.survey.specs.StateOf.{state_of};
 ghost use Rattle.survey.specs.LookedUp.{looked_up, Rounded};
 ghost use Rattle.grid_cells.specs.CellsRight.{RowRight, CellsRight};
 
 use grid_rules::Grid;
-use survey::{Answer, Survey};
+use refusal::Refusal;
+use survey::{Found, Survey};
 
 // The lookup where column c and row r are.
-fn look(s: Survey, g: Grid, c: usize, r: usize) -> Answer
+fn look(s: Survey, g: Grid, c: usize, r: usize) -> Result<Found, Refusal>
     requires { (c < 64) × (r < 64) }
-    ensures value { result ≡ looked_up (state_of s) (cell_location (grid_of g) c r).x (cell_location (grid_of g) c r).y }
-    ensures rounded { Rounded (state_of s) (cell_location (grid_of g) c r) result }
+    ensures value { numbered result ≡ looked_up (state_of s) (cell_location (grid_of g) c r).x (cell_location (grid_of g) c r).y }
+    ensures rounded { Rounded (state_of s) (cell_location (grid_of g) c r) (numbered result) }
 {
     let x = grid_rules::coordinate(g.x0, g.step_x, c);
     let y = grid_rules::coordinate(g.y0, g.step_y, r);
@@ -28,14 +30,11 @@ pub fn fill_row(s: Survey, g: Grid, r: usize, out: &mut [i16])
     ensures out_after { out.new ≡ row (state_of s) (grid_of g) r }
     ensures row_right { RowRight (state_of s) (grid_of g) r }
 {
-    let mut c = 0usize;
-    while c < out.len() {
-        let found = look(s, g, c, r);
-        let Answer::Found(answer, _, _) = found else {
+    for (c, cell) in out.iter_mut().enumerate() {
+        let Ok(found) = look(s, g, c, r) else {
             return;
         };
-        out[c] = answer;
-        c += 1;
+        *cell = found.answer;
     }
 }
 
@@ -45,14 +44,13 @@ pub fn fill(s: Survey, g: Grid, out: &mut [i16])
     ensures out_after { out.new ≡ cells_of (state_of s) (grid_of g) }
     ensures cells_right { CellsRight (state_of s) (grid_of g) }
 {
-    let columns = g.columns as usize;
-    let mut r = 0usize;
-    let mut at = 0usize;
-    while r < g.rows as usize {
+    let columns = usize::from(g.columns);
+    let mut at = 0;
+    // By the index of the row: the contract of chunks_exact_mut does not say what the list ends as.
+    for r in 0..usize::from(g.rows) {
         let end = at + columns;
         fill_row(s, g, r, &mut out[at..end]);
         at = end;
-        r += 1;
     }
 }
 

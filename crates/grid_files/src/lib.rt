@@ -1,10 +1,8 @@
-// Grid files read for callers in C and Rust: the six numbers to lent numbers, the cells to lent cells.
+// Grid files read for callers in C and Rust: the six numbers to lent numbers, the cells to lent cells. Answers and lent numbers are those that C asks for.
 #![tactic(auto)]
 
 ghost use Rattle.grid_rules.specs.GridOf.{grid_from};
 ghost use Rattle.grid_files.specs.GridTold.{GridTold, CellsTold};
-
-use grid_reading::{Filled, Opened};
 
 // The six numbers of a grid file: refusals 9, 10, 7, 12.
 pub fn check(
@@ -20,11 +18,10 @@ pub fn check(
         (grid_from x0.old y0.old step_x.old step_y.old columns.old rows.old)
         result (grid_from x0.new y0.new step_x.new step_y.new columns.new rows.new) }
 {
-    let opened: Opened = grid_reading::open(file);
-    if opened.refusal != 0 {
-        return opened.refusal;
-    }
-    let g = opened.grid;
+    let g = match grid_reading::open(file) {
+        Ok(g) => g,
+        Err(e) => return e.number(),
+    };
     *x0 = g.x0;
     *y0 = g.y0;
     *step_x = g.step_x;
@@ -38,12 +35,11 @@ pub fn check(
 pub fn cells(file: &[u8], out: &mut [i16], count: &mut usize) -> u8
     ensures { CellsTold file.now out.old count.old result out.new count.new }
 {
-    let filled = grid_reading::cells(file, out);
-    match filled {
-        Filled::Cells(n) => {
+    match grid_reading::cells(file, out) {
+        Ok(n) => {
             *count = n;
             0
         }
-        Filled::Refused(no) => no,
+        Err(e) => e.number(),
     }
 }

@@ -9,6 +9,7 @@ use lib.Dec.{ltb, eqb}
 use lib.ListN.{length, take, drop}
 use lib.Seq.{take-append_seam, drop_at}
 use borrow.Author.Tests.{eqb-true, eq-eqb, ne_eqb}
+use Rattle.std.specs.Prelude.{Result, Ok, Err}
 use Rattle.model.specs.Lists.{laid}
 use Rattle.model.specs.Point.{Contents, Point}
 use Rattle.model.specs.Extent.{settled}
@@ -18,10 +19,8 @@ use Rattle.model.specs.Esri.{esri_text, esri_refusal, esri_into}
 use Rattle.laws.proofs.GridLaws.{proper_axes}
 use Rattle.laws.proofs.EsriLaws.{cells_back}
 use Rattle.laws.proofs.EsriChecks.{esri_passes}
-use Rattle.survey_file.specs.declared.Written.{Written}
-use Rattle.survey_file.specs.declared.Written.TheVariants.{Length, Refused}
-use Rattle.survey_file.specs.Written.{told}
-use Rattle.survey_file.proofs.Told.{told_refused, told_length}
+use Rattle.refusal.specs.Numbered.{told}
+use Rattle.refusal.proofs.Told.{told_refused, told_value}
 use Rattle.grid_cells.specs.CellsRight.{WrittenRight}
 use Rattle.grid_cells.proofs.Told.{right_written}
 use Rattle.esri.specs.EsriWritten.{esri_written_as}
@@ -54,7 +53,7 @@ module _ (g : Grid) (q : Contents) (d : List ℕ) where
       by_test false e h = absurd (not_six (length d) size h)
 
   -- from the contract of `esri::write`: its answer a, what it leaves in the lent bytes, and what holds of the cells
-  module _ (a : Written) (d' : List ℕ) (e : a ≡ esri_written_as (settled q) g (length d)) (b : d' ≡ esri_into (settled q) g d) (right : WrittenRight (settled q) g a) where
+  module _ (a : Result ℕ ℕ) (d' : List ℕ) (e : a ≡ esri_written_as (settled q) g (length d)) (b : d' ≡ esri_into (settled q) g d) (right : WrittenRight (settled q) g a) where
     abbrev no : ℕ
     no = esri_refusal g (settled q) (length d)
 
@@ -65,16 +64,16 @@ module _ (g : Grid) (q : Contents) (d : List ℕ) where
     unfolding esri_written_as
     told_so = e
 
-    six_told : (a ≡ Refused 6) ↔ (no ≡ 6)
-    six_told = (λ h. sym (told_refused no text a told_so 6 h).0, λ h. told_so ∙ rw h)
+    six_told : (a ≡ Err 6) ↔ (no ≡ 6)
+    six_told = (λ h. sym (told_refused no (length text) a told_so 6 h).0, λ h. told_so ∙ rw h)
 
-    left : (n : ℕ) → a ≡ Refused n → d' ≡ d
+    left : (n : ℕ) → a ≡ Err n → d' ≡ d
     unfolding esri_into
-    left n h = let t = told_refused no text a told_so n h in b ∙ rw (ne_eqb no 0 (λ z. t.1 (t.0 ∙ z)))
+    left n h = let t = told_refused no (length text) a told_so n h in b ∙ rw (ne_eqb no 0 (λ z. t.1 (t.0 ∙ z)))
 
-    module _ (n : ℕ) (h : a ≡ Length n) where
+    module _ (n : ℕ) (h : a ≡ Ok n) where
       accepted : no ≡ 0
-      accepted = (told_length no text a told_so n h).0
+      accepted = (told_value no (length text) a told_so n h).0
 
       put : d' ≡ laid text d
       unfolding esri_into
@@ -85,10 +84,10 @@ module _ (g : Grid) (q : Contents) (d : List ℕ) where
       some_columns = let p = (esri_passes g (settled q) (enough (length d) size) accepted).rules in omega (arith, (proper_axes g p).0.some)
 
       front : take n d' ≡ text
-      front = rw (put, (told_length no text a told_so n h).1) (take-append_seam text (drop (length text) d))
+      front = rw (put, (told_value no (length text) a told_so n h).1) (take-append_seam text (drop (length text) d))
 
       behind : drop n d' ≡ drop n d
-      behind = rw (put, (told_length no text a told_so n h).1) (drop_at text (drop (length text) d) (length text) refl)
+      behind = rw (put, (told_value no (length text) a told_so n h).1) (drop_at text (drop (length text) d) (length text) refl)
 
     pub claim_text : ClaimText g q d a d'
     claim_text =

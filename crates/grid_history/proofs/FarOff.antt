@@ -10,6 +10,7 @@ use lib.IntN.{ℤ, pos}
 use lib.ListN.{length, take, drop, get_or, get_or-append}
 use contract.Lifetimes.{Lfts}
 use denote.MutBor.{MutBor}
+use Rattle.std.specs.Prelude.{Result, Ok}
 use Rattle.model.specs.Point.{Contents, State}
 use Rattle.model.specs.Extent.{settled}
 use Rattle.model.specs.Choice.{choice}
@@ -22,14 +23,13 @@ use Rattle.laws.proofs.GridLaws.{cell_at, length_cells, row_within}
 use Rattle.laws.proofs.EsriLaws.{cell_read}
 use Rattle.laws.proofs.AlikeLaws.{alike_length, radius_alike}
 use Rattle.laws.proofs.FarOffLaws.{answers_alike}
-use Rattle.survey_file.specs.declared.Written.TheVariants.{Length}
+use Rattle.refusal.specs.declared.Refusal.{Refusal}
+use Rattle.refusal.proofs.Told.{numbered_same}
 use Rattle.survey.specs.declared.Survey.{Survey}
 use Rattle.history.specs.Runs.{Makes, Runs, more}
 use Rattle.history.proofs.Runs.{leaves}
 use Rattle.history.proofs.FarOff.{mended_alike, mended_spares}
 use Rattle.grid_rules.specs.declared.Grid.{Grid}
-use Rattle.grid_rules.specs.declared.Filled.{Filled}
-use Rattle.grid_rules.specs.declared.Filled.TheVariants.{Cells}
 use Rattle.grid_rules.specs.GridOf.{grid_of}
 use Rattle.grid.specs.FilledAs.{filled_as}
 use Rattle.grid.proofs.FilledLaws.{filled_laid}
@@ -53,17 +53,18 @@ told_same q r alike g n = rw (alike_length q r alike)
 
 -- what lent cells hold of a grid that was filled
 module _ (s : State) (g : Model-as-Grid) (d : List ℤ) where
-  filled_at : (n : ℕ) → filled_as s g (length d) ≡ Cells n → (i : ℕ) (z : ℤ) → i < cell_count g → get_or (cells_into s g d) i z ≡ get_or (cells s g) i z
+  filled_at : (n : ℕ) → filled_as s g (length d) ≡ Ok n → (i : ℕ) (z : ℤ) → i < cell_count g → get_or (cells_into s g d) i z ≡ get_or (cells s g) i z
   filled_at n h i z k = rw (filled_laid s g d n h) (get_or-append (cells s g) (drop (length (cells s g)) d) z i (omega (arith, length_cells s g)))
 
 module _ {cs ds : List Call} {s t : Survey} (one : Runs cs s) (other : Runs ds t) (alike : Alike (present cs) (present ds)) (g : Grid) where
   -- of `grid::cells`, lent cells of one number: what is told
-  pub fillings_same : (κs κs' : Lfts 1) (out left out' left' : MutBor (List ℤ)) (a b : Filled)
+  pub fillings_same : (κs κs' : Lfts 1) (out left out' left' : MutBor (List ℤ)) (a b : Result ℕ Refusal)
       → Cells-of.Post κs (s, (g, (out, tt))) a (s, (g, (left, tt))) → Cells-of.Post κs' (t, (g, (out', tt))) b (t, (g, (left', tt)))
       → length out.now ≡ length out'.now → a ≡ b
   fillings_same κs κs' out left out' left' a b h k e =
-      rw (leaves one) at h.0 ∙ told_same (present cs) (present ds) alike (grid_of g) (length out.now)
-      ∙ ap (filled_as (settled (present ds)) (grid_of g)) e ∙ sym (rw (leaves other) at k.0)
+      numbered_same a b
+      (rw (leaves one) at h.0 ∙ told_same (present cs) (present ds) alike (grid_of g) (length out.now)
+      ∙ ap (filled_as (settled (present ds)) (grid_of g)) e ∙ sym (rw (leaves other) at k.0))
 
   module _ (c r : ℕ) (column : c < (grid_of g).columns) (row : r < (grid_of g).rows) (spared : Spared (settled (present cs)) (cell_location (grid_of g) c r) (present ds)) where
     abbrev index : ℕ
@@ -74,7 +75,7 @@ module _ {cs ds : List Call} {s t : Survey} (one : Runs cs s) (other : Runs ds t
 
     -- of `grid::cells`: the cell in what was lent
     pub cells_same : (κs κs' : Lfts 1) (out left out' left' : MutBor (List ℤ)) (n m : ℕ)
-        → Cells-of.Post κs (s, (g, (out, tt))) (Cells n) (s, (g, (left, tt))) → Cells-of.Post κs' (t, (g, (out', tt))) (Cells m) (t, (g, (left', tt)))
+        → Cells-of.Post κs (s, (g, (out, tt))) (Ok n) (s, (g, (left, tt))) → Cells-of.Post κs' (t, (g, (out', tt))) (Ok m) (t, (g, (left', tt)))
         → (z : ℤ) → get_or left.now index z ≡ get_or left'.now index z
     cells_same κs κs' out left out' left' n m h k z =
         let u = rw (leaves one) at h in
@@ -86,20 +87,20 @@ module _ {cs ds : List Call} {s t : Survey} (one : Runs cs s) (other : Runs ds t
 
     -- of `grid::write`: the cell as it is read from the file
     pub files_same : (κs κs' : Lfts 1) (out left out' left' : MutBor (List ℕ)) (n m : ℕ) → TwoBytes (grid_of g)
-        → write-of.Post κs (s, (g, (out, tt))) (Length n) (s, (g, (left, tt))) → write-of.Post κs' (t, (g, (out', tt))) (Length m) (t, (g, (left', tt)))
+        → write-of.Post κs (s, (g, (out, tt))) (Ok n) (s, (g, (left, tt))) → write-of.Post κs' (t, (g, (out', tt))) (Ok m) (t, (g, (left', tt)))
         → (z : ℤ) → get_or (cells_of_file (take n left.now)) index z ≡ get_or (cells_of_file (take m left'.now)) index z
     files_same κs κs' out left out' left' n m small h k z =
-        let u = file_claimed one κs g out left (Length n) h n refl small in
-        let v = file_claimed other κs' g out' left' (Length m) k m refl small in
+        let u = file_claimed one κs g out left (Ok n) h n refl small in
+        let v = file_claimed other κs' g out' left' (Ok m) k m refl small in
         rw (u.cells, v.cells) (cell_same (present cs) (present ds) alike (grid_of g) c r column row spared z)
 
     -- of `esri::write`: the cell as it is read from the text, whose rows go down
     pub texts_same : (κs κs' : Lfts 1) (out left out' left' : MutBor (List ℕ)) (n m : ℕ)
-        → text_of.Post κs (s, (g, (out, tt))) (Length n) (s, (g, (left, tt))) → text_of.Post κs' (t, (g, (out', tt))) (Length m) (t, (g, (left', tt)))
+        → text_of.Post κs (s, (g, (out, tt))) (Ok n) (s, (g, (left, tt))) → text_of.Post κs' (t, (g, (out', tt))) (Ok m) (t, (g, (left', tt)))
         → let line : ℕ = (grid_of g).rows - 1 - r in get_or (get_or (cells_read (take n left.now)) line []) c none ≡ get_or (get_or (cells_read (take m left'.now)) line []) c none
     texts_same κs κs' out left out' left' n m h k =
-        let u = (text_claimed one κs g out left (Length n) h).read n refl in
-        let v = (text_claimed other κs' g out' left' (Length m) k).read m refl in
+        let u = (text_claimed one κs g out left (Ok n) h).read n refl in
+        let v = (text_claimed other κs' g out' left' (Ok m) k).read m refl in
         rw (u, v)
         (read_at (settled (present cs)) ∙ ap (λ (a : ℤ). some (exact_cell a)) (cell_same (present cs) (present ds) alike (grid_of g) c r column row spared (pos 0))
         ∙ sym (read_at (settled (present ds))))
@@ -112,7 +113,7 @@ module _ {cs ds : List Call} {s t : Survey} (one : Runs cs s) (other : Runs ds t
 pub cells_mended : {cs : List Call} {s t : Survey} (u v : ℕ) (z : ℤ) → Runs cs s → Makes (Change u v z) s t
     → (g : Grid) (c r : ℕ) → c < (grid_of g).columns → r < (grid_of g).rows → taken u v (choice (settled (present cs)) (cell_location (grid_of g) c r)).points ≡ false
     → (κs κs' : Lfts 1) (out left out' left' : MutBor (List ℤ)) (n m : ℕ)
-    → Cells-of.Post κs (s, (g, (out, tt))) (Cells n) (s, (g, (left, tt))) → Cells-of.Post κs' (t, (g, (out', tt))) (Cells m) (t, (g, (left', tt)))
+    → Cells-of.Post κs (s, (g, (out, tt))) (Ok n) (s, (g, (left, tt))) → Cells-of.Post κs' (t, (g, (out', tt))) (Ok m) (t, (g, (left', tt)))
     → (d : ℤ) → get_or left.now ((grid_of g).columns * r + c) d ≡ get_or left'.now ((grid_of g).columns * r + c) d
 cells_mended {cs} {s} {t} u v z h m g c r column row unchosen =
     cells_same h (more cs (Change u v z) s t h m) (mended_alike cs u v z) g c r column row (mended_spares cs u v z (cell_location (grid_of g) c r) unchosen)

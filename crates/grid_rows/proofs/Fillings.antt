@@ -1,5 +1,5 @@
 -- What the grid being filled is read as, and what a begin and a row answer and leave, refused and accepted.
-use mathlib.Core.Path.{◌≡◌, refl, sym, ◌∙◌}
+use mathlib.Core.Path.{◌≡◌, refl, sym, ap, ◌∙◌}
 use Prim.Native.Nat.{ℕ, ◌+◌, ◌≤◌, ◌<◌}
 use native.Mathlib.Numerals.{add-one}
 use native.Mathlib.Omega.{arith}
@@ -9,20 +9,23 @@ use lib.Dec.{ltb, eqb}
 use lib.IntN.{ℤ}
 use lib.ListN.{length, drop}
 use borrow.Author.Tests.{ltb-true, ltb-false, lt-ltb, le-ltb, eqb-true, eq-eqb, ne_eqb}
-use Rattle.model.specs.Refusals.{enough}
+use Rattle.std.specs.Prelude.{Result, Ok, Err, IsErrAnd}
+use Rattle.model.specs.Refusals.{enough, or_else}
 use Rattle.model.specs.Grid.{row}
 use Rattle.model.specs.Filling.{NoGrid, Begun, begin_refusal, row_refusal, row_at, next_row, row_further, row_into, Filling as Model-as-Filling}
 use Rattle.laws.proofs.Tests.{cond_zero, cond_sound}
 use Rattle.laws.proofs.GridLaws.{length_row}
 use Rattle.laws.proofs.FillingLaws.{begin_accepted, begin_refused, row_accepted, row_refused}
+use Rattle.refusal.specs.declared.Refusal.{Refusal}
+use Rattle.refusal.specs.Numbered.{code, number_of}
+use Rattle.refusal.proofs.Coded.{never_0}
 use Rattle.survey.specs.declared.Survey.{Survey}
 use Rattle.survey.specs.StateOf.{state_of}
 use Rattle.grid_rules.specs.declared.Grid.{Grid}
 use Rattle.grid_rules.specs.GridOf.{grid_of}
 use Rattle.grid_cells.specs.CellsRight.{RowRight}
 use Rattle.grid_rows.specs.declared.Filling.{Filling}
-use Rattle.grid_rows.specs.declared.RowAnswer.{RowAnswer}
-use Rattle.grid_rows.specs.declared.RowAnswer.TheVariants.{Row, Refused}
+use Rattle.grid_rows.specs.declared.FilledRow.{FilledRow}
 use Rattle.grid_rows.specs.FillingOf.{filling_of, Begins, Advances, rowed_as, RowRounded}
 
 -- by which number a begin would refuse the grid
@@ -38,23 +41,26 @@ module _ (f : Filling) where
   unfolding filling_of
   read_none h = rw (ne_eqb (begins f) 0 h)
 
-module _ (f : Filling) (s : Survey) (g : Grid) (n : ℕ) (e : n ≡ begin_refusal (grid_of g) (state_of s)) where
-  pub begin_refuses : (n ≡ 0 → ⊥) → Begins f s g record { refusal = n; filling = f }
-  begin_refuses h = record {
-    number = e;
-    filling = sym (begin_refused (grid_of g) (state_of s) (filling_of f) (λ z. h (e ∙ z)));
-    survey = λ z. absurd (h (e ∙ z));
-    unaltered = λ _. refl;
-  }
+module _ (f : Filling) (s : Survey) (g : Grid) where
+  -- the refusal e that is passed on
+  pub begin_refuses : (r : Result (Unit {0}) Refusal) (e : Refusal) → IsErrAnd r (λ x. x ≡ e) → number_of e ≡ begin_refusal (grid_of g) (state_of s) → Begins f s g r f
+  begin_refuses (Ok x) e h k = absurd h
+  begin_refuses (Err x) e h k =
+      let number : number_of x ≡ begin_refusal (grid_of g) (state_of s) = ap number_of h ∙ k in
+      record {
+        number = number;
+        filling = sym (begin_refused (grid_of g) (state_of s) (filling_of f) (λ z. never_0 x (number ∙ z)));
+        survey = λ z. absurd (never_0 x (number ∙ z));
+        unaltered = λ _. refl;
+      }
 
-  pub begin_accepts : n ≡ 0 → Begins f s g record { refusal = n; filling = record { survey = s; grid = g; next = 0 } }
-  begin_accepts h =
-      let z : begin_refusal (grid_of g) (state_of s) ≡ 0 = sym e ∙ h in
+  pub begin_accepts : 0 ≡ begin_refusal (grid_of g) (state_of s) → Begins f s g (Ok tt) record { survey = s; grid = g; next = 0 }
+  begin_accepts e =
       record {
         number = e;
-        filling = read_begun record { survey = s; grid = g; next = 0 } z ∙ sym (begin_accepted (grid_of g) (state_of s) (filling_of f) z);
+        filling = read_begun record { survey = s; grid = g; next = 0 } (sym e) ∙ sym (begin_accepted (grid_of g) (state_of s) (filling_of f) (sym e));
         survey = λ _. refl;
-        unaltered = λ k. absurd (k z);
+        unaltered = λ k. absurd (k (sym e));
       }
 
 -- why the next row is refused where enough is lent, and where n cells are
@@ -77,13 +83,13 @@ module _ (f : Filling) (n : ℕ) where
   FirstOf m =
       let finished = row_refusal m f.grid.columns in
       let room = enough n f.grid.columns in
-      cond (eqb finished 0) (cond (eqb room 0) 0 room) finished ≡ row_refusal m n
+      or_else finished room ≡ row_refusal m n
 
   pub finished_then_room : FirstOf (filling_of f)
   unfolding filling_of row_refusal
   finished_then_room = by_begin (eqb (begins f) 0)
     where
-      by_tests : (u v : Bool) → ◌≡◌ {A = ℕ} (cond (eqb (cond u 0 17) 0) (cond (eqb (cond v 8 0) 0) 0 (cond v 8 0)) (cond u 0 17)) (cond u (cond v 8 0) 17)
+      by_tests : (u v : Bool) → ◌≡◌ {A = ℕ} (or_else (cond u 0 17) (cond v 8 0)) (cond u (cond v 8 0) 17)
       by_tests true true = refl
       by_tests true false = refl
       by_tests false v = refl
@@ -105,7 +111,7 @@ module _ (f : Filling) (n : ℕ) where
           (eqb-true (begins f) 0 e, ltb-true f.next f.grid.rows last.0, ltb-false n f.grid.columns lent.0)
       by_test false e k = absurd (omega arith)
 
-rounded_refused : (m : Model-as-Filling) (n : ℕ) → RowRounded m (Refused n)
+rounded_refused : (m : Model-as-Filling) (n : ℕ) → RowRounded m (Err n)
 unfolding RowRounded
 rounded_refused NoGrid n = tt
 rounded_refused (Begun s g r) n = tt
@@ -116,10 +122,10 @@ moved f = record { survey = f.survey; grid = f.grid; next = f.next + 1 }
 
 -- what the next row, lent d, gives
 module _ (f : Filling) (d : List ℤ) where
-  abbrev Gives : RowAnswer → Filling → List ℤ → Type 0
+  abbrev Gives : Result FilledRow ℕ → Filling → List ℤ → Type 0
   Gives a t d' = (a ≡ rowed_as (filling_of f) (length d)) × (Advances f (length d) t × ((d' ≡ row_into (filling_of f) d) × RowRounded (filling_of f) a))
 
-  pub row_refuses : (n : ℕ) → n ≡ row_refusal (filling_of f) (length d) → (n ≡ 0 → ⊥) → Gives (Refused n) f d
+  pub row_refuses : (n : ℕ) → n ≡ row_refusal (filling_of f) (length d) → (n ≡ 0 → ⊥) → Gives (Err n) f d
   unfolding rowed_as row_into
   row_refuses n e h =
       let k : row_refusal (filling_of f) (length d) ≡ 0 → ⊥ = λ z. h (e ∙ z) in
@@ -127,7 +133,7 @@ module _ (f : Filling) (d : List ℤ) where
       (rw (z, e), (record { filling = sym (row_refused (filling_of f) (length d) k); survey = refl; unaltered = λ _. refl }, (rw z, rounded_refused (filling_of f) n)))
 
   pub row_fills : row_refusal (filling_of f) (length d) ≡ 0 → RowRight (state_of f.survey) (grid_of f.grid) f.next
-      → Gives (Row f.next f.grid.columns) (moved f) (row (state_of f.survey) (grid_of f.grid) f.next ++ drop f.grid.columns d)
+      → Gives (Ok (record { index = f.next; cells = f.grid.columns })) (moved f) (row (state_of f.survey) (grid_of f.grid) f.next ++ drop f.grid.columns d)
   unfolding rowed_as row_into next_row row_at row_further RowRounded
   row_fills h right =
       let k = (row_passed f (length d) h).0 in

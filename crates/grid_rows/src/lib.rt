@@ -3,9 +3,11 @@
 
 ghost use Rattle.std.specs.Prelude.{◌≡◌, length};
 ghost use Rattle.model.specs.Filling.{NoGrid, row_refusal, row_into};
+ghost use Rattle.refusal.specs.Numbered.{code, numbered};
 ghost use Rattle.grid_rows.specs.FillingOf.{filling_of, Begins, Advances, rowed_as, RowRounded};
 
 pub use grid_rules::Grid;
+use refusal::Refusal;
 use survey::Survey;
 
 // The grid being filled: the survey at the begin, the grid, and the index of its next row. It stands beside the survey, which is edited meanwhile; a grid that no begin accepts stands for none begun.
@@ -16,25 +18,11 @@ pub struct Filling {
     next: usize,
 }
 
-// What a begin gives: 0 or the refusal's number, and the grid being filled, the same one where it is refused.
+// What a row answers: its index, counted from 0, and how many cells it has.
 #[derive(Clone, Copy)]
-pub struct BeginReply {
-    pub refusal: u8,
-    pub filling: Filling,
-}
-
-// What a row answers: its index, counted from 0, and how many cells it has; or the refusal's number.
-#[derive(Clone, Copy)]
-pub enum RowAnswer {
-    Row(usize, usize),
-    Refused(u8),
-}
-
-// What a row gives: its answer, and the grid being filled, the same one where it is refused.
-#[derive(Clone, Copy)]
-pub struct RowReply {
-    pub answer: RowAnswer,
-    pub filling: Filling,
+pub struct FilledRow {
+    pub index: usize,
+    pub cells: usize,
 }
 
 // No grid begun.
@@ -56,74 +44,53 @@ pub fn none() -> Filling
 }
 
 // A grid over the survey as it is now, in place of the one being filled: refusals 7, 6.
-pub fn begin(before: Filling, s: Survey, g: Grid) -> BeginReply
-    ensures { Begins before s g result }
+pub fn begin(f: &mut Filling, s: Survey, g: Grid) -> Result<(), Refusal>
+    ensures { Begins f.old s g result f.new }
 {
-    let no = grid_rules::refusal(g, survey::count(s), 0, 0);
-    if no != 0 {
-        return BeginReply {
-            refusal: no,
-            filling: before,
-        };
-    }
-    BeginReply {
-        refusal: no,
-        filling: Filling {
-            survey: s,
-            grid: g,
-            next: 0,
-        },
-    }
+    grid_rules::refusal(g, survey::count(s), 0, 0)?;
+    *f = Filling {
+        survey: s,
+        grid: g,
+        next: 0,
+    };
+    Ok(())
 }
 
-// Refusal 17, with no grid begun or after its last row, or 0: that of a row where enough is lent.
-fn finished_refusal(f: Filling) -> u8
-    ensures { result ≡ row_refusal (filling_of f) f.grid.columns }
+// Refusal 17, with no grid begun or after its last row: that of a row where enough is lent.
+fn finished_refusal(f: Filling) -> Result<(), Refusal>
+    ensures { code result ≡ row_refusal (filling_of f) f.grid.columns }
 {
     let g = f.grid;
-    let no = grid_rules::refusal(g, survey::count(f.survey), 0, 0);
-    if no != 0 {
-        return 17;
+    let begun = grid_rules::refusal(g, survey::count(f.survey), 0, 0);
+    if begun.is_ok() && f.next < g.rows as usize {
+        return Ok(());
     }
-    if f.next < g.rows as usize {
-        return 0;
-    }
-    17
+    Err(Refusal::NoRow)
 }
 
-// Refusals 17, 8, or 0: of the next row where `lent` cells are lent.
-fn row_refusal(f: Filling, lent: usize) -> u8
-    ensures { result ≡ row_refusal (filling_of f) lent }
+// Refusals 17, 8: of the next row where `lent` cells are lent.
+fn row_refusal(f: Filling, lent: usize) -> Result<(), Refusal>
+    ensures { code result ≡ row_refusal (filling_of f) lent }
 {
     let g = f.grid;
     let finished = finished_refusal(f);
     let room = grid_rules::room_refusal(lent, g.columns as usize);
-    grid_rules::first(finished, room, 0)
+    finished.and(room)
 }
 
 // The next row's cells to the front of the lent ones, which row it is, and how many cells it has: refusals 17, 8.
-pub fn row(f: Filling, out: &mut [i16]) -> RowReply
-    ensures answer_value { result.answer ≡ rowed_as (filling_of f) (length out.old) }
-    ensures advances { Advances f (length out.old) result.filling }
-    ensures out_after { out.new ≡ row_into (filling_of f) out.old }
-    ensures row_rounded { RowRounded (filling_of f) result.answer }
+pub fn row(f: &mut Filling, out: &mut [i16]) -> Result<FilledRow, Refusal>
+    ensures answer_value { numbered result ≡ rowed_as (filling_of f.old) (length out.old) }
+    ensures advances { Advances f.old (length out.old) f.new }
+    ensures out_after { out.new ≡ row_into (filling_of f.old) out.old }
+    ensures row_rounded { RowRounded (filling_of f.old) (numbered result) }
 {
-    let no = row_refusal(f, out.len());
-    if no != 0 {
-        return RowReply {
-            answer: RowAnswer::Refused(no),
-            filling: f,
-        };
-    }
+    row_refusal(*f, out.len())?;
     let s = f.survey;
     let g = f.grid;
     let r = f.next;
     let n = g.columns as usize;
     grid_cells::fill_row(s, g, r, &mut out[..n]);
-    let mut t = f;
-    t.next = r + 1;
-    RowReply {
-        answer: RowAnswer::Row(r, n),
-        filling: t,
-    }
+    f.next = r + 1;
+    Ok(FilledRow { index: r, cells: n })
 }

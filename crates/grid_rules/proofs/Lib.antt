@@ -1,3 +1,2 @@
 -- Facts that the proofs of this crate share.
 pub mod Rules
-pub mod Told

@@ -6,7 +6,10 @@ ghost use Rattle.model.specs.Point.{State};
 ghost use Rattle.model.specs.Refusals.{enough};
 ghost use Rattle.model.specs.Grid.{axis, proper, cell_count, grid_check};
 ghost use Rattle.model.specs.Esri.{esri_check};
+ghost use Rattle.refusal.specs.Numbered.{code};
 ghost use Rattle.grid_rules.specs.GridOf.{grid_of};
+
+use refusal::Refusal;
 
 // The first column and row stand at (x0, y0), the others a step apart.
 #[derive(Clone, Copy)]
@@ -19,120 +22,87 @@ pub struct Grid {
     pub rows: u16,
 }
 
-// What filling cells answers: how many were filled, or the refusal's number.
-#[derive(Clone, Copy)]
-pub enum Filled {
-    Cells(usize),
-    Refused(u8),
-}
-
 // Where column or row i is, counted from 0; it may lie past 16 bits.
 pub fn coordinate(start: u16, step: u16, i: usize) -> u32
     requires { i < 64 }
     ensures { result ≡ start + i * step }
 {
-    start as u32 + i as u32 * step as u32
+    u32::from(start) + i as u32 * u32::from(step)
 }
 
 // Whether the columns or the rows keep the rules.
 fn is_axis(start: u16, step: u16, count: u16) -> bool
     ensures { result ≡ axis start step count }
 {
-    if step < 1 {
-        return false;
-    }
-    if count < 1 {
-        return false;
-    }
-    if 64 < count {
-        return false;
-    }
-    let last = count as usize - 1;
-    coordinate(start, step, last) <= 4095
+    0 < step && (1..=64).contains(&count) && coordinate(start, step, usize::from(count) - 1) <= 4095
 }
 
 fn is_proper(g: Grid) -> bool
     ensures { result ≡ proper (grid_of g) }
 {
-    if is_axis(g.x0, g.step_x, g.columns) {
-        return is_axis(g.y0, g.step_y, g.rows);
-    }
-    false
+    is_axis(g.x0, g.step_x, g.columns) && is_axis(g.y0, g.step_y, g.rows)
 }
 
 pub fn cell_count(g: Grid) -> usize
     ensures { (result ≡ cell_count (grid_of g)) × (result < 2 ^ 32) }
 {
-    g.columns as usize * g.rows as usize
+    usize::from(g.columns) * usize::from(g.rows)
 }
 
-// Refusal 7, or 0.
-pub fn rules_refusal(g: Grid) -> u8
-    ensures { result ≡ cond (proper (grid_of g)) 0 7 }
+// Refusal 7.
+pub fn rules_refusal(g: Grid) -> Result<(), Refusal>
+    ensures { code result ≡ cond (proper (grid_of g)) 0 7 }
 {
     if is_proper(g) {
-        return 0;
+        return Ok(());
     }
-    7
+    Err(Refusal::GridRules)
 }
 
-fn steps_refusal(g: Grid) -> u8
-    ensures { result ≡ cond (eqb g.step_x g.step_y) 0 16 }
+fn steps_refusal(g: Grid) -> Result<(), Refusal>
+    ensures { code result ≡ cond (eqb g.step_x g.step_y) 0 16 }
 {
     if g.step_x == g.step_y {
-        return 0;
+        return Ok(());
     }
-    16
+    Err(Refusal::UnequalSteps)
 }
 
-fn empty_refusal(present: usize) -> u8
-    ensures { result ≡ cond (eqb present 0) 6 0 }
+fn empty_refusal(present: usize) -> Result<(), Refusal>
+    ensures { code result ≡ cond (eqb present 0) 6 0 }
 {
     if present == 0 {
-        return 6;
+        return Err(Refusal::Empty);
     }
-    0
+    Ok(())
 }
 
-// Refusal 8, or 0.
-pub fn room_refusal(lent: usize, needed: usize) -> u8
-    ensures { result ≡ enough lent needed }
+// Refusal 8.
+pub fn room_refusal(lent: usize, needed: usize) -> Result<(), Refusal>
+    ensures { code result ≡ enough lent needed }
 {
     if lent < needed {
-        return 8;
+        return Err(Refusal::TooFewLent);
     }
-    0
+    Ok(())
 }
 
-// The first that is not 0.
-pub fn first(a: u8, b: u8, c: u8) -> u8
-    ensures { result ≡ cond (eqb a 0) (cond (eqb b 0) c b) a }
-{
-    if a != 0 {
-        return a;
-    }
-    if b != 0 {
-        return b;
-    }
-    c
-}
-
-// Refusals 7, 6, 8, or 0: of a grid over `present` points that needs so many cells or bytes, where `lent` of them are lent.
-pub fn refusal(g: Grid, present: usize, lent: usize, needed: usize) -> u8
-    ensures { (s : State) → length s.contents.points ≡ present → result ≡ grid_check (grid_of g) s (enough lent needed) }
+// Refusals 7, 6, 8: of a grid over `present` points that needs so many cells or bytes, where `lent` of them are lent.
+pub fn refusal(g: Grid, present: usize, lent: usize, needed: usize) -> Result<(), Refusal>
+    ensures { (s : State) → length s.contents.points ≡ present → code result ≡ grid_check (grid_of g) s (enough lent needed) }
 {
     let rules = rules_refusal(g);
     let points = empty_refusal(present);
     let room = room_refusal(lent, needed);
-    first(rules, points, room)
+    rules.and(points).and(room)
 }
 
-// Refusals 7, 16, 6, or 0: of an Esri ASCII grid over `present` points, before it is known how long its text is.
-pub fn esri_refusal(g: Grid, present: usize) -> u8
-    ensures { (s : State) → length s.contents.points ≡ present → result ≡ esri_check (grid_of g) s 0 }
+// Refusals 7, 16, 6: of an Esri ASCII grid over `present` points, before it is known how long its text is.
+pub fn esri_refusal(g: Grid, present: usize) -> Result<(), Refusal>
+    ensures { (s : State) → length s.contents.points ≡ present → code result ≡ esri_check (grid_of g) s 0 }
 {
     let rules = rules_refusal(g);
     let steps = steps_refusal(g);
     let points = empty_refusal(present);
-    first(rules, steps, points)
+    rules.and(steps).and(points)
 }

@@ -5,9 +5,11 @@ ghost use Rattle.std.specs.Prelude.{◌≡◌, ◌+◌, ◌≤◌, ◌<◌, leng
 ghost use Rattle.model.specs.Bytes.{word_at, same};
 ghost use Rattle.model.specs.GridFile.{grid_magic, grid_in};
 ghost use Rattle.model.specs.GridReading.{columns_length, some_length, grid_file_check};
+ghost use Rattle.refusal.specs.Numbered.{code};
 ghost use Rattle.grid_rules.specs.GridOf.{grid_of};
 
 use grid_rules::Grid;
+use refusal::Refusal;
 
 // The magic: the last four of them.
 const MAGIC: [u8; 4] = *b"RLG1";
@@ -40,28 +42,14 @@ fn has_rows(n: usize, c: usize) -> bool
     requires { c ≤ 64 }
     ensures { result ≡ columns_length n c }
 {
-    let mut rows = 0usize;
-    while rows < 64 {
-        if 2 * (c * (rows + 1)) + 20 == n {
-            return true;
-        }
-        rows += 1;
-    }
-    false
+    (1..65).any(|rows| 2 * (c * rows) + 20 == n)
 }
 
 // Whether some grid has a file of n bytes.
 fn has_length(n: usize) -> bool
     ensures { result ≡ some_length n }
 {
-    let mut columns = 0usize;
-    while columns < 64 {
-        if has_rows(n, columns + 1) {
-            return true;
-        }
-        columns += 1;
-    }
-    false
+    (1..65).any(|columns| has_rows(n, columns))
 }
 
 // Whether the last four bytes, from i on, are the magic.
@@ -72,28 +60,24 @@ fn has_magic(file: &[u8], i: usize) -> bool
     numbers::same(&file[i..], &MAGIC)
 }
 
-// Refusals 9, 10, 7, 12, or 0.
-pub fn check(file: &[u8]) -> u8
-    ensures { result ≡ grid_file_check file.now 0 }
+// Refusals 9, 10, 7, 12.
+#[tactic(auto, unfolding(model::specs::GridReading::grid_file_check))]
+pub fn check(file: &[u8]) -> Result<(), Refusal>
+    ensures { code result ≡ grid_file_check file.now 0 }
 {
     let len = file.len();
     if !has_length(len) {
-        return 9;
+        return Err(Refusal::FileLength);
     }
     let end = len - 20;
     if !has_magic(file, end + 16) {
-        return 10;
+        return Err(Refusal::Magic);
     }
     let g = grid_of(&file[end..]);
-    if grid_rules::rules_refusal(g) != 0 {
-        return 7;
-    }
+    grid_rules::rules_refusal(g)?;
     let cells = 2 * grid_rules::cell_count(g);
-    if numbers::long_at(file, end + 12) != cells {
-        return 12;
+    if numbers::long_at(file, end + 12) != cells || len != cells + 20 {
+        return Err(Refusal::BackDistance);
     }
-    if len != cells + 20 {
-        return 12;
-    }
-    0
+    Ok(())
 }

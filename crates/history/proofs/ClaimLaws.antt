@@ -6,22 +6,20 @@ use native.Mathlib.Omega.{arith}
 use mathlib.Core.Bool.{true}
 use mathlib.Core.List.{List, [], ◌∷◌, ◌++◌}
 use lib.ListN.{length, take, drop, take-append-drop}
+use Rattle.std.specs.Prelude.{Result, Ok, Err}
 use Rattle.model.specs.Point.{Point, Contents, Extent, State, location, in_domain}
 use Rattle.model.specs.Radius.{locations, twice_area}
 use Rattle.model.specs.Extent.{extent_of, settled}
 use Rattle.model.specs.Invariant.{Invariant}
-use Rattle.model.specs.Answer.{answer, chosen_count}
 use Rattle.model.specs.Refusals.{neighbours_refusal}
 use Rattle.model.specs.Lent.{neighbours_into}
-use Rattle.model.specs.Choice.{choice}
 use Rattle.laws.proofs.CallLaws.{lookup_none, lookup_some, neighbours_accepted, neighbours_refusal_lem, neighbours_short, neighbours_enough, neighbours_unaltered}
 use Rattle.laws.proofs.PolygonLaws.{polygon_is, locations_ascend}
 use Rattle.laws.proofs.BoxLaws.{area_is}
 use Rattle.laws.proofs.ExtentLaws.{ends_none, ends_are}
 use Rattle.neighbour_records.specs.declared.Record.{Record}
 use Rattle.neighbour_records.specs.Records.{record_of}
-use Rattle.survey.specs.declared.Answer.{Answer}
-use Rattle.survey.specs.declared.Answer.TheVariants.{Refused}
+use Rattle.survey.specs.declared.Found.{Found}
 use Rattle.survey.specs.LookedUp.{found, looked_up, looked_up_lent, Rounded}
 use Rattle.survey.proofs.Looking.{looked_up_lem}
 use Rattle.lending.specs.LentAs.{LentAs}
@@ -32,14 +30,14 @@ none_or_some [] = inl refl
 none_or_some (a ∷ l) = inr (λ e. let z : ◌≡◌ {A = ℕ} 0 1 = cc in omega arith)
 
 module _ (x y : ℕ) (q : Contents) (on : in_domain x y ≡ true) where
-  looked_none : q.points ≡ [] → looked_up (settled q) x y ≡ Refused 6
+  looked_none : q.points ≡ [] → looked_up (settled q) x y ≡ Err 6
   unfolding looked_up
   looked_none e = rw (lookup_none x y (settled q) on e)
 
-  looked_some : (q.points ≡ [] → ⊥) → looked_up (settled q) x y ≡ found (settled q) (location x y)
+  looked_some : (q.points ≡ [] → ⊥) → looked_up (settled q) x y ≡ Ok (found (settled q) (location x y))
   looked_some h = looked_up_lem (settled q) x y (lookup_some x y (settled q) on h)
 
-pub claim_of : (x y : ℕ) (q : Contents) (a : Answer) → a ≡ looked_up (settled q) x y → Rounded (settled q) (location x y) a → Claim x y q a
+pub claim_of : (x y : ℕ) (q : Contents) (a : Result Found ℕ) → a ≡ looked_up (settled q) x y → Rounded (settled q) (location x y) a → Claim x y q a
 unfolding Rounded
 claim_of x y q a e r =
     record {
@@ -50,7 +48,7 @@ claim_of x y q a e r =
       right = λ on h.
           let p = location x y in
           let g = e ∙ looked_some x y q on h in
-          (answer (settled q) p, chosen_count (settled q) p, (choice (settled q) p).radius, g, rw g at r);
+          (found (settled q) p, g, rw g at r);
     }
 
 -- where n records are lent
@@ -58,11 +56,11 @@ module _ (x y n : ℕ) (q : Contents) where
   abbrev s : State
   s = settled q
 
-  lent_none : in_domain x y ≡ true → q.points ≡ [] → looked_up_lent s x y n ≡ Refused 6
+  lent_none : in_domain x y ≡ true → q.points ≡ [] → looked_up_lent s x y n ≡ Err 6
   unfolding looked_up_lent
   lent_none on e = rw (neighbours_refusal_lem, lookup_none x y s on e)
 
-  lent_short : n < 10 → in_domain x y ≡ true → (q.points ≡ [] → ⊥) → looked_up_lent s x y n ≡ Refused 8
+  lent_short : n < 10 → in_domain x y ≡ true → (q.points ≡ [] → ⊥) → looked_up_lent s x y n ≡ Err 8
   unfolding looked_up_lent
   lent_short h on e = rw (neighbours_short x y n s (lookup_some x y s on e) h)
 
@@ -74,7 +72,7 @@ module _ (x y n : ℕ) (q : Contents) where
   lent_refused h e = omega (arith, h, (neighbours_accepted x y n s e).1)
 
   -- from what is answered, and that a short list is as it was
-  claimed : (a : Answer) (l k : List Record) → a ≡ looked_up_lent s x y n → Rounded s (location x y) a → (n < 10 → k ≡ l) → ClaimLent x y n q a l k
+  claimed : (a : Result Found ℕ) (l k : List Record) → a ≡ looked_up_lent s x y n → Rounded s (location x y) a → (n < 10 → k ≡ l) → ClaimLent x y n q a l k
   claimed a l k e r was = record {
     six = λ h on g. e ∙ lent_none on g;
     eight = λ h on g. e ∙ lent_short h on g;
@@ -84,11 +82,11 @@ module _ (x y n : ℕ) (q : Contents) where
 
 -- a whole list is lent, or the first n records of one
 module _ (x y : ℕ) (q : Contents) where
-  pub claim_lent_of : (l : List Record) (a : Answer) (k : List Record) → LentAs (settled q) x y l a k → ClaimLent x y (length l) q a l k
+  pub claim_lent_of : (l : List Record) (a : Result Found ℕ) (k : List Record) → LentAs (settled q) x y l a k → ClaimLent x y (length l) q a l k
   claim_lent_of l a k p =
       claimed x y (length l) q a l k p.0 p.1 (λ h. p.2 ∙ neighbours_unaltered record_of x y (settled q) l (lent_refused x y (length l) q h))
 
-  pub claim_lending_of : (a : Answer) (l k : List Record) (n : ℕ) → a ≡ looked_up_lent (settled q) x y (length (take n l)) → Rounded (settled q) (location x y) a
+  pub claim_lending_of : (a : Result Found ℕ) (l k : List Record) (n : ℕ) → a ≡ looked_up_lent (settled q) x y (length (take n l)) → Rounded (settled q) (location x y) a
       → k ≡ neighbours_into record_of (settled q) x y (take n l) ++ drop n l → ClaimLent x y (length (take n l)) q a l k
   claim_lending_of a l k n e r was =
       claimed x y (length (take n l)) q a l k e r

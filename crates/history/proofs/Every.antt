@@ -7,6 +7,7 @@ use mathlib.Core.List.{List, [], ◌∷◌, ◌++◌, flat_map}
 use lib.IntN.{ℤ}
 use lib.ListN.{length, take, drop, length-append}
 use lib.Seq.{take-append_seam, drop-append_seam}
+use Rattle.std.specs.Prelude.{Result}
 use Rattle.model.specs.Lists.{All, Bytes}
 use Rattle.model.specs.Bytes.{bytes4, complement, signed}
 use contract.Lifetimes.{Lfts}
@@ -18,7 +19,9 @@ use Rattle.laws.proofs.Numbers.{long_back, bytes4_bytes, signed_back, complement
 use Rattle.extent.specs.declared.Extent.{Extent}
 use Rattle.extent.specs.Kept.{as_extent}
 use Rattle.neighbour_records.specs.declared.Record.{Record}
-use Rattle.survey.specs.declared.Answer.{Answer}
+use Rattle.refusal.specs.declared.Refusal.{Refusal}
+use Rattle.refusal.specs.Numbered.{numbered}
+use Rattle.survey.specs.declared.Found.{Found}
 use Rattle.lending.specs.declared.AnswerWithRecords.{AnswerWithRecords}
 use Rattle.history.specs.Claim.{Claim, ClaimLent, ClaimKept}
 use Rattle.history.specs.Encoding.{call_of, file_length, numbers_at, first_calls, calls}
@@ -114,12 +117,12 @@ files_bytes (c ∷ cs) h = all_append Byte (call_file c) (files cs) (written c h
 
 -- Demand 3 of `run_calls` and of `run_calls_lending`, over every list of calls: where the bytes of a list are lent, the answer is right about what that list leaves
 module _ (cs : List Call) (h : All Callable cs) (κs : Lfts 1) (records fs : Bor (List ℕ)) (er : records.now ≡ encoded cs) (ef : fs.now ≡ files cs) (x y : ℕ) where
-  pub demand_3_encoded : (a : Answer) → run-calls-of.Post κs (records, (fs, (x, (y, tt)))) a (records, (fs, (x, (y, tt)))) → Claim x y (present cs) a
+  pub demand_3_encoded : (a : Result Found Refusal) → run-calls-of.Post κs (records, (fs, (x, (y, tt)))) a (records, (fs, (x, (y, tt)))) → Claim x y (present cs) (numbered a)
   demand_3_encoded a p = rw (er, ef, every cs h) at p.1
 
   pub demand_3_encoded_neighbours : (l : List Record) (n : ℕ) (r : AnswerWithRecords)
       → run-calls-lending-of.Post κs (records, (fs, (x, (y, (l, (n, tt)))))) r (records, (fs, (x, (y, (l, (n, tt))))))
-      → ClaimLent x y (length (take n l)) (present cs) r.answer l r.records
+      → ClaimLent x y (length (take n l)) (present cs) (numbered r.answer) l r.records
   demand_3_encoded_neighbours l n r p = rw (er, ef, every cs h) at p.1.1
 
 -- §1 of `run_calls_extent`, over every list of calls

@@ -6,6 +6,7 @@ use mathlib.Core.Bool.{false}
 use mathlib.Core.List.{List, [], ◌∷◌, ◌++◌}
 use lib.IntN.{ℤ}
 use lib.ListN.{length, take, drop}
+use Rattle.std.specs.Prelude.{Result}
 use Rattle.model.specs.Point.{Location, Contents, location}
 use Rattle.model.specs.Extent.{settled}
 use Rattle.model.specs.Choice.{choice}
@@ -19,7 +20,9 @@ use Rattle.laws.proofs.FarOffLaws.{answers_alike, change_alike, change_spares}
 use Rattle.neighbour_records.specs.declared.Record.{Record}
 use Rattle.neighbour_records.specs.Records.{record_of}
 use Rattle.survey.specs.declared.Survey.{Survey}
-use Rattle.survey.specs.declared.Answer.{Answer}
+use Rattle.refusal.specs.declared.Refusal.{Refusal}
+use Rattle.refusal.proofs.Told.{numbered_same}
+use Rattle.survey.specs.declared.Found.{Found}
 use Rattle.survey.specs.StateOf.{state_of}
 use Rattle.survey.specs.LookedUp.{looked_up, looked_up_lent}
 use Rattle.survey.proofs.lookup.Reads as lookup-of
@@ -58,11 +61,11 @@ module _ (q r : Contents) (alike : Alike q r) (x y : ℕ) (spared : Spared (sett
 module _ {cs ds : List Call} {s t : Survey} (one : Runs cs s) (other : Runs ds t) (alike : Alike (present cs) (present ds)) (x y : ℕ)
     (spared : Spared (settled (present cs)) (location x y) (present ds)) where
   -- the answer, the count and the radius, or the refusal
-  pub lookups_same : (a b : Answer) → lookup-of.Post tt (s, (x, (y, tt))) a (s, (x, (y, tt))) → lookup-of.Post tt (t, (x, (y, tt))) b (t, (x, (y, tt))) → a ≡ b
-  lookups_same a b h g = rw (leaves one) at h.0 ∙ looked_same (present cs) (present ds) alike x y spared ∙ sym (rw (leaves other) at g.0)
+  pub lookups_same : (a b : Result Found Refusal) → lookup-of.Post tt (s, (x, (y, tt))) a (s, (x, (y, tt))) → lookup-of.Post tt (t, (x, (y, tt))) b (t, (x, (y, tt))) → a ≡ b
+  lookups_same a b h g = numbered_same a b (rw (leaves one) at h.0 ∙ looked_same (present cs) (present ds) alike x y spared ∙ sym (rw (leaves other) at g.0))
 
   -- of `lookup_neighbours`, lent a list that was l: the answer, and the list after it
-  pub neighbours_same : (l k m : List Record) (a b : Answer) → LentAs (state_of s) x y l a k → LentAs (state_of t) x y l b m → (a ≡ b) × (k ≡ m)
+  pub neighbours_same : (l k m : List Record) (a b : Result Found ℕ) → LentAs (state_of s) x y l a k → LentAs (state_of t) x y l b m → (a ≡ b) × (k ≡ m)
   neighbours_same l k m a b h g =
       let u = rw (leaves one) at h in
       let v = rw (leaves other) at g in (
@@ -76,7 +79,7 @@ module _ {cs ds : List Call} {s t : Survey} (one : Runs cs s) (other : Runs ds t
   lendings_same l n a b h g =
       let u = rw (leaves one) at h in
       let v = rw (leaves other) at g in (
-        u.0 ∙ lent_same (present cs) (present ds) alike x y spared (length (take n l)) ∙ sym v.0,
+        numbered_same a.answer b.answer (u.0 ∙ lent_same (present cs) (present ds) alike x y spared (length (take n l)) ∙ sym v.0),
         u.2 ∙ ap (λ (k : List Record). k ++ drop n l) (into_same (present cs) (present ds) alike x y spared (take n l)) ∙ sym v.2,
       )
 
@@ -91,6 +94,6 @@ module _ (cs : List Call) (u v : ℕ) (z : ℤ) where
 -- a lookup that does not choose the point gives what it gave before
 pub mended : {cs : List Call} {s t : Survey} (u v : ℕ) (z : ℤ) → Runs cs s → Makes (Change u v z) s t
     → (x y : ℕ) → taken u v (choice (settled (present cs)) (location x y)).points ≡ false
-    → (a b : Answer) → lookup-of.Post tt (s, (x, (y, tt))) a (s, (x, (y, tt))) → lookup-of.Post tt (t, (x, (y, tt))) b (t, (x, (y, tt))) → a ≡ b
+    → (a b : Result Found Refusal) → lookup-of.Post tt (s, (x, (y, tt))) a (s, (x, (y, tt))) → lookup-of.Post tt (t, (x, (y, tt))) b (t, (x, (y, tt))) → a ≡ b
 mended {cs} {s} {t} u v z h m x y unchosen =
     lookups_same h (more cs (Change u v z) s t h m) (mended_alike cs u v z) x y (mended_spares cs u v z (location x y) unchosen)

@@ -21,7 +21,7 @@ pub enum Influence {
 fn inverse_factor(distance: u32) -> f64
     ensures { result ≡ factor_f (inverse distance) }
 {
-    to_float(1) / to_float(distance as u64)
+    to_float(1) / to_float(u64::from(distance))
 }
 
 // 27 (r - d)² / (4 r³).
@@ -29,8 +29,8 @@ fn tapered_factor(radius: u32, distance: u32) -> f64
     requires { distance ≤ radius }
     ensures { result ≡ factor_f (tapered radius distance) }
 {
-    let t = to_float((radius - distance) as u64);
-    let r = to_float(radius as u64);
+    let t = to_float(u64::from(radius - distance));
+    let r = to_float(u64::from(radius));
     to_float(27) * (t * t) / (to_float(4) * (r * (r * r)))
 }
 
@@ -44,7 +44,7 @@ pub fn influence_at(few: bool, radius: u32, distance: u32) -> Influence
     if few {
         return Influence::Inverse(inverse_factor(distance));
     }
-    if 3 * (distance as u64) <= radius as u64 {
+    if 3 * u64::from(distance) <= u64::from(radius) {
         return Influence::Inverse(inverse_factor(distance));
     }
     if distance < radius {
@@ -53,7 +53,7 @@ pub fn influence_at(few: bool, radius: u32, distance: u32) -> Influence
     Influence::Edge
 }
 
-// The reported number of an influence.
+// The reported number of an influence: by a match, since an enum two of whose variants carry a factor has no cast.
 pub fn kind_of(influence: Influence) -> u8
     ensures { result ≡ kind_of influence }
 {
@@ -70,8 +70,7 @@ pub fn factor_of(influence: Influence) -> f64
 {
     match influence {
         Influence::Coincident => 1.0,
-        Influence::Inverse(s) => s,
-        Influence::Tapered(s) => s,
+        Influence::Inverse(s) | Influence::Tapered(s) => s,
         Influence::Edge => 0.0,
     }
 }
@@ -79,10 +78,5 @@ pub fn factor_of(influence: Influence) -> f64
 pub fn is_edge(influence: Influence) -> bool
     ensures { result ≡ edge_of influence }
 {
-    match influence {
-        Influence::Coincident => false,
-        Influence::Inverse(_) => false,
-        Influence::Tapered(_) => false,
-        Influence::Edge => true,
-    }
+    matches!(influence, Influence::Edge)
 }

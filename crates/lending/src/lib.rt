@@ -5,37 +5,33 @@ ghost use Rattle.std.specs.Prelude.{◌≡◌, ◌++◌, min, length, take, drop
 ghost use Rattle.model.specs.Point.{location};
 ghost use Rattle.model.specs.Lent.{neighbours_into};
 ghost use Rattle.neighbour_records.specs.Records.{record_of};
+ghost use Rattle.refusal.specs.Numbered.{numbered};
 ghost use Rattle.survey.specs.StateOf.{state_of};
 ghost use Rattle.lending.specs.LentAs.{LentAs};
 ghost use Rattle.survey.specs.LookedUp.{looked_up_lent, Rounded};
 
-use survey::{Answer, Record, Survey};
+use refusal::Refusal;
+use survey::{Found, Record, Survey};
 
 // What a lookup lent records of an array gives: the answer, and the array after the call.
 #[derive(Clone, Copy)]
 pub struct AnswerWithRecords {
-    pub answer: Answer,
+    pub answer: Result<Found, Refusal>,
     pub records: [Record; 32],
 }
 
 // The answer of `survey::lookup`, and the chosen points' records, in order of choice, to the front of the lent list: refusals 1, 6, 8.
-pub fn lookup_neighbours<'a>(s: Survey, x: u32, y: u32, list: &'a mut [Record]) -> Answer
-    ensures { LentAs (state_of s) x y list.old result list.new }
+pub fn lookup_neighbours<'a>(
+    s: Survey,
+    x: u32,
+    y: u32,
+    list: &'a mut [Record],
+) -> Result<Found, Refusal>
+    ensures { LentAs (state_of s) x y list.old (numbered result) list.new }
 {
-    let lent = list.len();
-    let decision = survey::decide(s, x, y, lent);
-    let found = decision.list;
-    neighbour_records::fill(list, found);
-    decision.answer
-}
-
-fn at_most_32(n: usize) -> usize
-    ensures { result ≡ min n 32 }
-{
-    if n < 32 {
-        return n;
-    }
-    32
+    let decision = survey::decide(s, x, y, list.len())?;
+    neighbour_records::fill(list, decision.list);
+    Ok(decision.found)
 }
 
 // The same for a caller that holds its records in an array, of which it lends the first n.
@@ -46,15 +42,14 @@ pub fn lookup_lending(
     records: [Record; 32],
     n: usize,
 ) -> AnswerWithRecords
-    ensures { (result.answer ≡ looked_up_lent (state_of s) x y (length (take n records)))
-        × Rounded (state_of s) (location x y) result.answer
+    ensures { (numbered result.answer ≡ looked_up_lent (state_of s) x y (length (take n records)))
+        × Rounded (state_of s) (location x y) (numbered result.answer)
         × (result.records ≡ neighbours_into record_of (state_of s) x y (take n records) ++ drop n records) }
 {
     let mut list = records;
-    let m = at_most_32(n);
-    let answer = lookup_neighbours(s, x, y, &mut list[..m]);
+    let answer = lookup_neighbours(s, x, y, &mut list[..n.min(32)]);
     AnswerWithRecords {
-        answer: answer,
+        answer,
         records: list,
     }
 }

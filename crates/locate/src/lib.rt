@@ -10,23 +10,14 @@ ghost use Rattle.locate.specs.Leading.{leading, elsewhere, not_after, passes};
 fn same(a: u16, b: u16, x: u32, y: u32) -> bool
     ensures { (z : ℤ) → result ≡ at x y (point a b z) }
 {
-    if a as u32 != x {
-        return false;
-    }
-    b as u32 == y
+    u32::from(a) == x && u32::from(b) == y
 }
 
 // Whether (x, y) comes before the location (a, b).
 fn comes_before(x: u32, y: u32, a: u16, b: u16) -> bool
     ensures { (z : ℤ) → result ≡ precedes (point x y (pos 0)) (point a b z) }
 {
-    if x < a as u32 {
-        return true;
-    }
-    if x != a as u32 {
-        return false;
-    }
-    y < b as u32
+    (x, y) < (u32::from(a), u32::from(b))
 }
 
 // Whether a search for (x, y) stops at the location (a, b): where `behind`, at one that (x, y) comes before; otherwise at (x, y) itself.
@@ -51,19 +42,18 @@ fn search<'a>(
     ensures { (zs : List ℤ) → result ≡ leading (passes behind x y) (points_in xs.now ys.now zs n) }
 {
     let m = point_arrays::clamped(n);
-    let mut i = 0usize;
-    while i < m {
+    for i in 0..m {
         let a = point_arrays::coordinate(xs[i]);
         let b = point_arrays::coordinate(ys[i]);
         if stops(behind, x, y, a, b) {
             return i;
         }
-        i += 1;
     }
-    i
+    m
 }
 
 // The index of the point at a location, or the number of points where none is there.
+#[tactic(auto, unfolding(crate::specs::Leading::passes))]
 pub fn find<'a>(xs: &'a [u16; 256], ys: &'a [u16; 256], n: usize, x: u32, y: u32) -> usize
     ensures { (zs : List ℤ) → result ≡ leading (elsewhere x y) (points_in xs.now ys.now zs n) }
 {
@@ -71,6 +61,7 @@ pub fn find<'a>(xs: &'a [u16; 256], ys: &'a [u16; 256], n: usize, x: u32, y: u32
 }
 
 // The index that a point at a location would take: in front of the first that it comes before.
+#[tactic(auto, unfolding(crate::specs::Leading::passes))]
 pub fn rank<'a>(xs: &'a [u16; 256], ys: &'a [u16; 256], n: usize, x: u32, y: u32) -> usize
     ensures { (zs : List ℤ) → result ≡ leading (not_after x y) (points_in xs.now ys.now zs n) }
 {

@@ -29,8 +29,7 @@ fn mean_of(c: Chosen, least: i8) -> f64
 {
     let w = weights::weights(c);
     let x = lessened(c, least);
-    let n = c.count;
-    weighted_mean::scaled_mean(512, &w, &x, n)
+    weighted_mean::scaled_mean(512, &w, &x, c.count)
 }
 
 // A value with k 256ths above it, in 256ths of a step.
@@ -38,7 +37,7 @@ fn above(value: i8, k: u64) -> i16
     requires { (k ≤ 2 ^ 21) × (((pos 256 *ℤ value) +ℤ pos k) ≤ℤ pos 32512) }
     ensures { result ≡ (pos 256 *ℤ value) +ℤ pos k }
 {
-    (256 * (value as i32) + (k as i32)) as i16
+    (256 * i32::from(value) + k as i32) as i16
 }
 
 // The answer: the value of a point at the location, or the mean.
@@ -46,8 +45,7 @@ fn answer_of(c: Chosen) -> i16
     requires { (s : State) × (p : Location) × Asked s p c }
     ensures { (s : State) (p : Location) → Asked s p c → result ≡ answer s p }
 {
-    let items = c.items;
-    let first = items[0];
+    let first = c.items[0];
     if first.distance == 0 {
         return above(first.z, 0);
     }

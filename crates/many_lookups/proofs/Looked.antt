@@ -5,13 +5,13 @@ use mathlib.Core.List.{List, ◌++◌}
 use lib.IntN.{ℤ}
 use lib.ListN.{length, take, drop, get_or}
 use lib.Seq.{take-length}
+use Rattle.std.specs.Prelude.{Result, Ok}
 use Rattle.model.specs.Lists.{laid}
 use Rattle.model.specs.Bytes.{word_at}
 use Rattle.model.specs.Point.{State, Location, location}
 use Rattle.model.specs.Mean.{Right}
 use Rattle.model.specs.Answer.{answer}
-use Rattle.survey.specs.declared.Answer.{Answer}
-use Rattle.survey.specs.declared.Answer.TheVariants.{Found}
+use Rattle.survey.specs.declared.Found.{Found}
 use Rattle.survey.specs.LookedUp.{found, looked_up, Rounded}
 use Rattle.survey.proofs.Looking.{looked_up_lem}
 use Rattle.many_lookups.specs.Locations.{locations_in}
@@ -19,13 +19,13 @@ use Rattle.many_lookups.specs.AnswersInto.{first_refusal, answer_fields, answer_
 use Rattle.many_lookups.proofs.Turns.{nowhere, location_at_lem, all_from}
 
 -- q is what is found at index i, and the lookups after it are accepted
-pub record Turn (s : State) (l : List Location) (i : ℕ) (q : Answer) : Type 0 where
-  pub here : q ≡ found s (get_or l i nowhere)
+pub record Turn (s : State) (l : List Location) (i : ℕ) (q : Result Found ℕ) : Type 0 where
+  pub here : q ≡ Ok (found s (get_or l i nowhere))
   pub right : Right s (get_or l i nowhere) (answer s (get_or l i nowhere))
   pub next : first_refusal s (drop (i + 1) l) ≡ 0
 
 pub turn : (s : State) (b : List ℕ) (i : ℕ) → i < length b / 4 → first_refusal s (drop i (locations_in b)) ≡ 0
-    → (x y : ℕ) → x ≡ word_at b (4 * i) → y ≡ word_at b (4 * i + 2) → (q : Answer) → (q ≡ looked_up s x y) × Rounded s (location x y) q → Turn s (locations_in b) i q
+    → (x y : ℕ) → x ≡ word_at b (4 * i) → y ≡ word_at b (4 * i + 2) → (q : Result Found ℕ) → (q ≡ looked_up s x y) × Rounded s (location x y) q → Turn s (locations_in b) i q
 unfolding Rounded
 turn s b i h left x y ex ey q looked =
     let from = all_from b i h s x y ex ey left in
@@ -41,7 +41,7 @@ answer_length s p = refl
 pub copied : (b r m o : List ℕ) → r ≡ b → o ≡ take (length r) r ++ drop (length r) m → o ≡ laid b m
 copied b r m o e h = rw (h, take-length r, e)
 
-module _ {s : State} {l : List Location} {i : ℕ} {q : Answer} (t : Turn s l i q) where
-  pub found_fields : {a : ℤ} {n r : ℕ} → q ≡ Found a n r → answer_fields a n r ≡ answer_bytes s (get_or l i nowhere)
+module _ {s : State} {l : List Location} {i : ℕ} {q : Result Found ℕ} (t : Turn s l i q) where
+  pub found_fields : {f : Found} → q ≡ Ok f → answer_fields f.answer f.count f.radius ≡ answer_bytes s (get_or l i nowhere)
   unfolding answer_bytes
   found_fields f = let e = t.here in cc

@@ -5,11 +5,13 @@ ghost use Rattle.std.specs.Prelude.{◌≡◌, ◌+◌, ◌*◌, ◌/◌, ◌<�
 ghost use Rattle.model.specs.Lists.{laid};
 ghost use Rattle.model.specs.Bytes.{word_at};
 ghost use Rattle.model.specs.Point.{State};
+ghost use Rattle.refusal.specs.Numbered.{code};
 ghost use Rattle.survey.specs.StateOf.{state_of};
 ghost use Rattle.many_lookups.specs.Locations.{locations_in};
 ghost use Rattle.many_lookups.specs.AnswersInto.{first_refusal, answer_fields, answers_bytes, AllRight, AnswersInto};
 
-use survey::{Answer, Survey};
+use refusal::Refusal;
+use survey::{Found, Survey};
 
 // The coordinate in the two bytes at i.
 fn coordinate(locations: &[u8], i: usize) -> u32
@@ -19,40 +21,29 @@ fn coordinate(locations: &[u8], i: usize) -> u32
     numbers::word_at(locations, i) as u32
 }
 
-// Why the first lookup that is refused is refused, in a survey of n points; 0 where none is. It is known before a byte is written.
-fn refusal(n: usize, locations: &[u8]) -> u8
-    ensures { (s : State) → length s.contents.points ≡ min n 256 → result ≡ first_refusal s (locations_in locations.now) }
+// Why the first lookup that is refused is refused, in a survey of n points. It is known before a byte is written.
+fn refusal(n: usize, locations: &[u8]) -> Result<(), Refusal>
+    ensures { (s : State) → length s.contents.points ≡ min n 256 → code result ≡ first_refusal s (locations_in locations.now) }
 {
     let count = locations.len() / 4;
-    let mut i = 0usize;
-    while i < count {
+    for i in 0..count {
         let at = 4 * i;
         let x = coordinate(locations, at);
         let y = coordinate(locations, at + 2);
-        let no = refusals::of_lookup(n, x, y);
-        if no != 0 {
-            return no;
-        }
-        i += 1;
+        refusals::of_lookup(n, x, y)?;
     }
-    0
+    Ok(())
 }
 
 // The answer in two bytes, the count in two, the radius in four.
-fn fields(answer: i16, count: usize, radius: u32) -> [u8; 8]
-    ensures { result ≡ answer_fields answer count radius }
+fn fields(f: Found) -> [u8; 8]
+    ensures { result ≡ answer_fields f.answer f.count f.radius }
 {
-    let a = numbers::complement_word(answer);
-    [
-        (a / 256 % 256) as u8,
-        (a % 256) as u8,
-        (count / 256 % 256) as u8,
-        (count % 256) as u8,
-        (radius / 65536 / 256 % 256) as u8,
-        (radius / 65536 % 256) as u8,
-        (radius / 256 % 256) as u8,
-        (radius % 256) as u8,
-    ]
+    let mut b = [0; 8];
+    b[..2].copy_from_slice(&f.answer.to_be_bytes());
+    b[2..4].copy_from_slice(&((f.count % 65536) as u16).to_be_bytes());
+    b[4..].copy_from_slice(&f.radius.to_be_bytes());
+    b
 }
 
 // The answers to the front of the lent bytes; the rest of them is untouched. Every lookup is accepted, so the `else` cannot come.
@@ -62,33 +53,27 @@ fn fill(s: Survey, locations: &[u8], out: &mut [u8])
     ensures all_right { AllRight (state_of s) (locations_in locations.now) }
 {
     let count = locations.len() / 4;
-    let mut i = 0usize;
-    while i < count {
+    for i in 0..count {
         let from = 4 * i;
         let x = coordinate(locations, from);
         let y = coordinate(locations, from + 2);
-        let found = survey::lookup(s, x, y);
-        let Answer::Found(answer, n, radius) = found else {
+        let Ok(found) = survey::lookup(s, x, y) else {
             return;
         };
-        let b = fields(answer, n, radius);
+        let b = fields(found);
         let at = 8 * i;
         numbers::copy(&b, &mut out[at..]);
-        i += 1;
     }
 }
 
 // The answers at the locations, eight bytes each, to the front of the lent bytes: the first lookup's refusal, 1 or 6, then 8.
-pub fn write(s: Survey, locations: &[u8], out: &mut [u8]) -> u8
-    ensures { AnswersInto (state_of s) locations.now out.old result out.new }
+pub fn write(s: Survey, locations: &[u8], out: &mut [u8]) -> Result<(), Refusal>
+    ensures { AnswersInto (state_of s) locations.now out.old (code result) out.new }
 {
-    let no = refusal(survey::count(s), locations);
-    if no != 0 {
-        return no;
-    }
+    refusal(survey::count(s), locations)?;
     if out.len() / 8 < locations.len() / 4 {
-        return 8;
+        return Err(Refusal::TooFewLent);
     }
     fill(s, locations, out);
-    0
+    Ok(())
 }

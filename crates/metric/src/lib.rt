@@ -2,7 +2,6 @@
 #![tactic(auto)]
 
 ghost use Rattle.std.specs.Prelude.{◌≡◌, ◌%◌};
-ghost use Rattle.model.specs.Distance.{gap as gap_of};
 ghost use Rattle.metric.specs.From.{Proper, squared_from, offset_x_from, offset_y_from};
 
 // The location of a lookup.
@@ -12,24 +11,19 @@ pub struct Viewpoint {
     pub y: u16,
 }
 
-// The difference of two coordinates, in 16 bits, so that a pass works out eight at a time.
-fn gap(m: u16, n: u16) -> u16
-    ensures { result ≡ gap_of m n }
-{
-    if m < n { n - m } else { m - n }
-}
-
-// d² of a point of the arrays as it is read.
+// d² of a point of the arrays as it is read. The differences take 16 bits, so that a pass works out eight at a time.
+#[tactic(auto, unfolding(crate::specs::From::squared_from))]
 pub fn squared_from(v: Viewpoint, x: u16, y: u16) -> u32
     requires { Proper v }
     ensures { result ≡ squared_from v (x % 4096) (y % 4096) }
 {
-    let dx = gap(v.x, point_arrays::coordinate(x)) as u32;
-    let dy = gap(v.y, point_arrays::coordinate(y)) as u32;
+    let dx = u32::from(v.x.abs_diff(point_arrays::coordinate(x)));
+    let dy = u32::from(v.y.abs_diff(point_arrays::coordinate(y)));
     dx * dx + dy * dy
 }
 
 // The offset of a point in x, in 16 bits, so that a neighbour takes 16 bytes. Coordinates are read as those of the arrays are.
+#[tactic(auto, unfolding(crate::specs::From::offset_x_from))]
 pub fn offset_x(v: Viewpoint, x: u16) -> i16
     ensures { result ≡ offset_x_from v x }
 {
@@ -37,6 +31,7 @@ pub fn offset_x(v: Viewpoint, x: u16) -> i16
 }
 
 // The offset of a point in y.
+#[tactic(auto, unfolding(crate::specs::From::offset_y_from))]
 pub fn offset_y(v: Viewpoint, y: u16) -> i16
     ensures { result ≡ offset_y_from v y }
 {

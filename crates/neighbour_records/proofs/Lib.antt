@@ -1,3 +1,2 @@
 -- The laws that the proofs here and in the survey share.
-pub mod Over
 pub mod Rows

@@ -67,18 +67,14 @@ pub fn records_of(c: Chosen) -> RecordList
     requires { c.count ≤ 10 }
     ensures { (s : State) (p : Location) → Chose s p c → Listed s p result }
 {
-    let items = c.items;
-    let n = c.count;
-    let few = c.few;
-    let radius = c.radius;
-    let mut r = [blank(); 10];
-    let mut i = 0usize;
-    while i < n {
-        let a = items[i];
-        r[i] = item_record(few, radius, a);
-        i += 1;
+    let mut items = [blank(); 10];
+    for i in 0..c.count {
+        items[i] = item_record(c.few, c.radius, c.items[i]);
     }
-    RecordList { items: r, count: n }
+    RecordList {
+        items,
+        count: c.count,
+    }
 }
 
 // The records to the front of the lent list; the rest of it is untouched.
@@ -86,11 +82,6 @@ pub fn fill<'a>(list: &'a mut [Record], found: RecordList)
     requires { (found.count ≤ 10) × (found.count ≤ length list.old) }
     ensures { list.new ≡ laid (take found.count found.items) list.old }
 {
-    let items = found.items;
-    let count = found.count;
-    let mut i: usize = 0;
-    while i < count {
-        list[i] = items[i];
-        i = i + 1;
-    }
+    let n = found.count;
+    list[..n].copy_from_slice(&found.items[..n]);
 }

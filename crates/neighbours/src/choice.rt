@@ -1,5 +1,5 @@
 // Who is chosen of the first points in order, and the radius R: document 01, "Who is chosen".
-ghost use Rattle.std.specs.Prelude.{◌≡◌, map, ℕ, ◌≤◌, length, take};
+ghost use Rattle.std.specs.Prelude.{◌≡◌, map, ℕ, ◌≤◌, cond, length, take};
 ghost use Rattle.model.specs.Point.{State, Location};
 ghost use Rattle.model.specs.Choice.{Choice, choice, coincident as coincident_at, choice_apart};
 ghost use Rattle.metric.specs.From.{Sees, Proper};
@@ -14,20 +14,14 @@ use metric::Viewpoint;
 fn coincident(b: Candidates) -> bool
     ensures { (s : State) (p : Location) (k : ℕ) → HoldsEnough s p k b → result ≡ coincident_at s p }
 {
-    if b.count == 0 {
-        return false;
-    }
-    let items = b.items;
-    let first = items[0];
-    first.distance == 0
+    b.count > 0 && b.items[0].distance == 0
 }
 
 // Rules 2 to 5, for a lookup where no point is at the location. m points are present, k of them within R0; R is D of the first point left out, or R0, or 0 where four or fewer are present.
-pub(crate) fn by_count(b: Candidates, m: usize, k: u32, r0: u32) -> Selection
+fn by_count(b: Candidates, m: usize, k: u32, r0: u32) -> Selection
     ensures count_bound { result.count ≤ 10 }
     ensures selects { (s : State) (p : Location) → HoldsEnough s p k b → m ≡ length s.contents.points → r0 ≡ s.extent.radius → Selects s p (choice_apart s p) b result }
 {
-    let items = b.items;
     if k <= 4 {
         if m <= 4 {
             return Selection {
@@ -35,10 +29,9 @@ pub(crate) fn by_count(b: Candidates, m: usize, k: u32, r0: u32) -> Selection
                 radius: 0,
             };
         }
-        let fifth = items[4];
         return Selection {
             count: 4,
-            radius: fifth.distance,
+            radius: b.items[4].distance,
         };
     }
     if k <= 10 {
@@ -47,18 +40,21 @@ pub(crate) fn by_count(b: Candidates, m: usize, k: u32, r0: u32) -> Selection
             radius: r0,
         };
     }
-    let eleventh = items[10];
     Selection {
         count: 10,
-        radius: eleventh.distance,
+        radius: b.items[10].distance,
     }
 }
 
-// Rule 1, or the others where no point is at the location.
-pub(crate) fn selected(b: Candidates, m: usize, k: u32, r0: u32) -> Selection
+// Rule 1, or the others where no point is at the location; these alone where `apart`.
+pub(crate) fn selected(b: Candidates, m: usize, k: u32, r0: u32, apart: bool) -> Selection
     ensures count_bound { result.count ≤ 10 }
-    ensures selects { (s : State) (p : Location) → HoldsEnough s p k b → m ≡ length s.contents.points → r0 ≡ s.extent.radius → Selects s p (choice s p) b result }
+    ensures selects { (s : State) (p : Location) → HoldsEnough s p k b → m ≡ length s.contents.points → r0 ≡ s.extent.radius
+        → Selects s p (cond apart (choice_apart s p) (choice s p)) b result }
 {
+    if apart {
+        return by_count(b, m, k, r0);
+    }
     if coincident(b) {
         return Selection {
             count: 1,
@@ -95,11 +91,8 @@ fn neighbours(v: Viewpoint, items: [Candidate; 11], k: usize) -> [Neighbour; 10]
         z: 0,
     };
     let mut a = [e; 10];
-    let mut i: usize = 0;
-    while i < k {
-        let c = items[i];
-        a[i] = seen_from(v, c);
-        i += 1;
+    for i in 0..k {
+        a[i] = seen_from(v, items[i]);
     }
     a
 }
@@ -109,11 +102,9 @@ pub(crate) fn filled(v: Viewpoint, b: Candidates, t: Selection, m: usize) -> Cho
     requires { t.count ≤ 10 }
     ensures { (s : State) (p : Location) (k : ℕ) (c : Choice) → Sees s p v → Proper v → HoldsEnough s p k b → m ≡ length s.contents.points → Selects s p c b t → Holds s p c result }
 {
-    let items = b.items;
-    let k = t.count;
     Chosen {
-        items: neighbours(v, items, k),
-        count: k,
+        items: neighbours(v, b.items, t.count),
+        count: t.count,
         radius: t.radius,
         few: m <= 4,
     }

@@ -3,7 +3,7 @@
 
 mod choice;
 
-ghost use Rattle.std.specs.Prelude.{◌≡◌, ℕ, ◌≤◌, length};
+ghost use Rattle.std.specs.Prelude.{◌≡◌, ℕ, ◌≤◌, cond, length};
 ghost use Rattle.model.specs.Point.{Location, State};
 ghost use Rattle.model.specs.Choice.{choice as choice_of, choice_apart};
 ghost use Rattle.point_arrays.specs.PointArrays.{HoldsPoints};
@@ -66,7 +66,7 @@ fn among<'a>(
     let limit = squares::limit_for(squares, within, reach);
     Nearest {
         first: candidates::first(xs, ys, zs, squares, limit),
-        within: within,
+        within,
     }
 }
 
@@ -96,6 +96,26 @@ fn nearest_points<'a>(
     among(xs, ys, zs, &room[..m], r0)
 }
 
+// The neighbours of a viewpoint, by rules 2 to 5 alone where `apart`.
+fn choose_by<'a>(
+    xs: &'a [u16; 256],
+    ys: &'a [u16; 256],
+    zs: &'a [i8; 256],
+    n: usize,
+    v: Viewpoint,
+    r0: u32,
+    apart: bool,
+) -> Chosen
+    requires { Proper v }
+    ensures { (s : State) (p : Location) → HoldsPoints s xs.now ys.now zs.now n → Sees s p v → r0 ≡ s.extent.radius
+        → Holds s p (cond apart (choice_apart s p) (choice_of s p)) result }
+{
+    let m = point_arrays::clamped(n);
+    let b = nearest_points(xs, ys, zs, n, v, r0);
+    let t = choice::selected(b.first, m, b.within, r0, apart);
+    choice::filled(v, b.first, t, m)
+}
+
 // The neighbours of a viewpoint, for the initial radius R0.
 pub fn choose<'a>(
     xs: &'a [u16; 256],
@@ -109,10 +129,7 @@ pub fn choose<'a>(
     ensures { (s : State) (p : Location) → HoldsPoints s xs.now ys.now zs.now n → Sees s p v → r0 ≡ s.extent.radius
         → Holds s p (choice_of s p) result }
 {
-    let m = point_arrays::clamped(n);
-    let b = nearest_points(xs, ys, zs, n, v, r0);
-    let t = choice::selected(b.first, m, b.within, r0);
-    choice::filled(v, b.first, t, m)
+    choose_by(xs, ys, zs, n, v, r0, false)
 }
 
 // The same by rules 2 to 5 alone, whether or not a point is at the viewpoint.
@@ -128,8 +145,5 @@ pub fn choose_apart<'a>(
     ensures { (s : State) (p : Location) → HoldsPoints s xs.now ys.now zs.now n → Sees s p v → r0 ≡ s.extent.radius
         → Holds s p (choice_apart s p) result }
 {
-    let m = point_arrays::clamped(n);
-    let b = nearest_points(xs, ys, zs, n, v, r0);
-    let t = choice::by_count(b.first, m, b.within, r0);
-    choice::filled(v, b.first, t, m)
+    choose_by(xs, ys, zs, n, v, r0, true)
 }

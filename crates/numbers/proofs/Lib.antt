@@ -1,4 +1,2 @@
 -- Facts that the proofs of this crate share.
-pub mod Signs
 pub mod Totals
-pub mod Compared

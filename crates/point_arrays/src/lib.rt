@@ -14,5 +14,5 @@ pub fn coordinate(v: u16) -> u16
 pub fn clamped(n: usize) -> usize
     ensures { result ≡ min n 256 }
 {
-    if n < 256 { n } else { 256 }
+    n.min(256)
 }

@@ -7,11 +7,10 @@ use mathlib.Core.List.{List, [], ◌∷◌, ◌++◌}
 use native.Mathlib.Omega.{arith}
 use native.Mathlib.Numerals.{add-one}
 use native.Mathlib.Nat.{mul-le-mul}
-use lib.Dec.{ltb}
 use lib.ListN.{length, get_or, set}
 use lib.Seq.{get_or-set_same, get_or-set_other}
 use Rattle.model.specs.Point.{Location, location}
-use Rattle.model.specs.Polygon.{turns_left, turns_right, trim, extend, lower, upper, shoelace_plus, shoelace_minus, enclosed}
+use Rattle.model.specs.Polygon.{trim, extend, lower, upper, shoelace_plus, shoelace_minus, enclosed}
 use Rattle.laws.proofs.AreaLaws.{plus_sides, minus_sides}
 use Rattle.point_arrays.specs.PointArrays.{locations_in}
 use Rattle.point_arrays.proofs.ReadLaws.{locations_more}
@@ -22,39 +21,27 @@ product_most a b g h =
     let k : a * b ≤ 65535 * 65535 = mul-le-mul {n₂ = 65535} {m₂ = 65535} (omega arith) (omega arith) in
     omega arith
 
-module _ (up : Bool) (ax ay bx by cx cy f₁ f₂ f₃ g₁ g₂ g₃ : ℕ)
-    (e₁ : f₁ ≡ ax * by) (e₂ : f₂ ≡ bx * cy) (e₃ : f₃ ≡ cx * ay) (d₁ : g₁ ≡ ay * bx) (d₂ : g₂ ≡ by * cx) (d₃ : g₃ ≡ cy * ax) where
-  pub turn_right : up ≡ true → ltb (f₁ + f₂ + f₃) (g₁ + g₂ + g₃) ≡ turn_of up (location ax ay) (location bx by) (location cx cy)
-  unfolding turn_of turns_right
-  turn_right u = rw (u, e₁, e₂, e₃, d₁, d₂, d₃) refl
-
-  pub turn_left : up ≡ false → ltb (g₁ + g₂ + g₃) (f₁ + f₂ + f₃) ≡ turn_of up (location ax ay) (location bx by) (location cx cy)
-  unfolding turn_of turns_left
-  turn_left u = rw (u, e₁, e₂, e₃, d₁, d₂, d₃) refl
-
 module _ (f : Location → Location → Location → Bool) (xs ys : List ℕ) (p : Location) where
-  -- a side of two or more: the test says whether its end stays
-  trim_test : (k : ℕ) (t : Bool) → 2 ≤ k
-      → t ≡ f (location (get_or xs (k - 2) 0) (get_or ys (k - 2) 0)) (location (get_or xs (k - 1) 0) (get_or ys (k - 1) 0)) p
-      → trim f (stacked xs ys k) p ≡ cond t (stacked xs ys k) (trim f (stacked xs ys (k - 1)) p)
+  -- a side of two or more, whose end is at i: the test says whether it stays
+  trim_test : (i : ℕ) (t : Bool) → 1 ≤ i
+      → t ≡ f (location (get_or xs (i - 1) 0) (get_or ys (i - 1) 0)) (location (get_or xs i 0) (get_or ys i 0)) p
+      → trim f (stacked xs ys (i + 1)) p ≡ cond t (stacked xs ys (i + 1)) (trim f (stacked xs ys i) p)
   unfolding trim stacked
   trim_test zero t h e = absurd (omega arith)
-  trim_test (suc zero) t h e = absurd (omega arith)
-  trim_test (suc (suc m)) t h e =
-      let e₁ : suc (suc m) - 1 ≡ suc m = omega arith in
-      let e₂ : suc (suc m) - 2 ≡ m = omega arith in
-      let g : t ≡ f (location (get_or xs m 0) (get_or ys m 0)) (location (get_or xs (suc m) 0) (get_or ys (suc m) 0)) p = rw (e₁, e₂) at e in
-      rw (e₁, g) refl
+  trim_test (suc m) t h e =
+      let e₁ : suc m - 1 ≡ m = omega arith in
+      let g : t ≡ f (location (get_or xs m 0) (get_or ys m 0)) (location (get_or xs (suc m) 0) (get_or ys (suc m) 0)) p = rw e₁ at e in
+      rw (add-one, g) refl
 
-  pub trim_stays : (k : ℕ) (t : Bool) → 2 ≤ k
-      → t ≡ f (location (get_or xs (k - 2) 0) (get_or ys (k - 2) 0)) (location (get_or xs (k - 1) 0) (get_or ys (k - 1) 0)) p → t ≡ true
-      → trim f (stacked xs ys k) p ≡ stacked xs ys k
-  trim_stays k t h e is = trim_test k t h e ∙ ap (λ (b : Bool). cond b (stacked xs ys k) (trim f (stacked xs ys (k - 1)) p)) is
+  pub trim_stays : (i : ℕ) (t : Bool) → 1 ≤ i
+      → t ≡ f (location (get_or xs (i - 1) 0) (get_or ys (i - 1) 0)) (location (get_or xs i 0) (get_or ys i 0)) p → t ≡ true
+      → trim f (stacked xs ys (i + 1)) p ≡ stacked xs ys (i + 1)
+  trim_stays i t h e is = trim_test i t h e ∙ ap (λ (b : Bool). cond b (stacked xs ys (i + 1)) (trim f (stacked xs ys i) p)) is
 
-  pub trim_less : (k : ℕ) (t : Bool) → 2 ≤ k
-      → t ≡ f (location (get_or xs (k - 2) 0) (get_or ys (k - 2) 0)) (location (get_or xs (k - 1) 0) (get_or ys (k - 1) 0)) p → t ≡ false
-      → trim f (stacked xs ys k) p ≡ trim f (stacked xs ys (k - 1)) p
-  trim_less k t h e is = trim_test k t h e ∙ ap (λ (b : Bool). cond b (stacked xs ys k) (trim f (stacked xs ys (k - 1)) p)) is
+  pub trim_less : (i : ℕ) (t : Bool) → 1 ≤ i
+      → t ≡ f (location (get_or xs (i - 1) 0) (get_or ys (i - 1) 0)) (location (get_or xs i 0) (get_or ys i 0)) p → t ≡ false
+      → trim f (stacked xs ys (i + 1)) p ≡ trim f (stacked xs ys i) p
+  trim_less i t h e is = trim_test i t h e ∙ ap (λ (b : Bool). cond b (stacked xs ys (i + 1)) (trim f (stacked xs ys i) p)) is
 
   pub trim_short : (k : ℕ) → k < 2 → trim f (stacked xs ys k) p ≡ stacked xs ys k
   unfolding trim stacked

@@ -18,10 +18,11 @@ struct Corners {
 fn product(a: u16, b: u16) -> u64
     ensures { (result ≡ a * b) × (result ≤ 4294836225) }
 {
-    (a as u64) * (b as u64)
+    u64::from(a) * u64::from(b)
 }
 
 // Whether the way from a by b to c turns right, as the upper side does, or left; straight on is no turn.
+#[tactic(auto, unfolding(crate::specs::Stacked::turn_of, model::specs::Polygon::turns_left, model::specs::Polygon::turns_right))]
 fn turns(up: bool, ax: u16, ay: u16, bx: u16, by: u16, cx: u16, cy: u16) -> bool
     ensures { result ≡ turn_of up (location ax ay) (location bx by) (location cx cy) }
 {
@@ -46,14 +47,12 @@ fn staying<'a>(
     ensures upper_bound { result ≤ depth }
     ensures py_value { trim (turn_of up) (stacked xs.now ys.now depth) (location px py) ≡ stacked xs.now ys.now result }
 {
-    let mut k = depth;
-    while 2 <= k {
-        if turns(up, xs[k - 2], ys[k - 2], xs[k - 1], ys[k - 1], px, py) {
-            return k;
+    for last in (1..depth).rev() {
+        if turns(up, xs[last - 1], ys[last - 1], xs[last], ys[last], px, py) {
+            return last + 1;
         }
-        k -= 1;
     }
-    k
+    depth.min(1)
 }
 
 // The upper or the lower side around the first m points. Each point comes once and goes at most once, so this is linear in m.
@@ -64,21 +63,19 @@ fn side<'a>(xs: &'a [u16; 256], ys: &'a [u16; 256], m: usize, up: bool) -> Corne
 {
     let mut sx: [u16; 256] = [0; 256];
     let mut sy: [u16; 256] = [0; 256];
-    let mut depth: usize = 0;
-    let mut i: usize = 0;
-    while i < m {
+    let mut depth = 0;
+    for i in 0..m {
         let px = point_arrays::coordinate(xs[i]);
         let py = point_arrays::coordinate(ys[i]);
         let k = staying(&sx, &sy, depth, up, px, py);
         sx[k] = px;
         sy[k] = py;
         depth = k + 1;
-        i += 1;
     }
     Corners {
         xs: sx,
         ys: sy,
-        depth: depth,
+        depth,
     }
 }
 
@@ -87,11 +84,9 @@ fn lace<'a>(a: &'a [u16; 256], b: &'a [u16; 256], depth: usize) -> u64
     requires { depth ≤ 256 }
     ensures { (result ≡ laced a.now b.now depth) × (result ≤ 256 * 4294836225) }
 {
-    let mut sum: u64 = 0;
-    let mut i: usize = 1;
-    while i < depth {
+    let mut sum = 0;
+    for i in 1..depth {
         sum += product(a[i], b[i - 1]);
-        i += 1;
     }
     sum
 }
@@ -105,8 +100,5 @@ pub fn enclosed<'a>(xs: &'a [u16; 256], ys: &'a [u16; 256], n: usize) -> u64
     let high = side(xs, ys, m, true);
     let plus = lace(&low.ys, &low.xs, low.depth) + lace(&high.xs, &high.ys, high.depth);
     let minus = lace(&low.xs, &low.ys, low.depth) + lace(&high.ys, &high.xs, high.depth);
-    if plus < minus {
-        return 0;
-    }
-    plus - minus
+    plus.saturating_sub(minus)
 }

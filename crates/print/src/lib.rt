@@ -56,7 +56,8 @@ fn read_some(from: &mut Streams, out: &mut [u8]) -> usize
 pub fn fill(from: &mut Streams, out: &mut [u8]) -> usize
     ensures { result ≤ length out.new }
 {
-    let mut done = 0usize;
+    let mut done = 0;
+    // A read takes as many bytes as the stream has, so what came is counted, and no range gives the steps.
     while done < out.len() {
         let n = read_some(from, &mut out[done..]);
         if n == 0 {
@@ -89,16 +90,17 @@ pub fn line_feed(to: &mut Streams) {
 
 // Writes a number in decimal.
 pub fn number(to: &mut Streams, n: u64) {
+    // These digits are the definition's, which std's formatting does not cite.
     let mut text = [0u8; 20];
     let k = digits::decimal(n, &mut text);
-    word(to, &text[0..k]);
+    word(to, &text[..k]);
 }
 
 // Writes a value in decimal, with its minus sign.
 pub fn signed(to: &mut Streams, a: i16) {
     let mut text = [0u8; 20];
     let k = digits::signed(numbers::widened(a), &mut text);
-    word(to, &text[0..k]);
+    word(to, &text[..k]);
 }
 
 // Writes at most 65,536 bytes in hexadecimal.
@@ -108,5 +110,5 @@ pub fn hexadecimal(to: &mut Streams, list: &[u8])
     let mut text = [0u8; 131072];
     digits::hexadecimal(list, &mut text);
     let k = 2 * list.len();
-    word(to, &text[0..k]);
+    word(to, &text[..k]);
 }

@@ -23,13 +23,12 @@ use Rattle.read_points.proofs.Records.{points_step, points_end}
 pub record Passed (s : List ℕ) (count : ℕ) (r : Points) (least i : ℕ) : Type 0 where
   pub within : i ≤ count
   pub sized : Sized r.x r.y r.z
-  pub accepted : r.refusal ≡ 0
   pub left : fault (points_of s) ≡ fault_from least (points_of (drop (5 * i) s))
   pub so_far : held r.x r.y r.z i ++ points_of (drop (5 * i) s) ≡ points_of s
 
-pub at_start : (s : List ℕ) (count : ℕ) (r : Points) → Sized r.x r.y r.z → r.refusal ≡ 0 → Passed s count r 0 0
+pub at_start : (s : List ℕ) (count : ℕ) (r : Points) → Sized r.x r.y r.z → Passed s count r 0 0
 unfolding held tabulate
-at_start s count r z e = record { within = omega arith; sized = z; accepted = e; left = fault_rank (points_of s); so_far = refl }
+at_start s count r z = record { within = omega arith; sized = z; left = fault_rank (points_of s); so_far = refl }
 
 -- a record's fault is the list's, and with none the next record decides
 abbrev by : Bool → Bool → ℕ → ℕ
@@ -46,12 +45,12 @@ passes_on true false n k = refl
 passes_on false b n k = let z : ◌≡◌ {A = ℕ} 14 0 = k in absurd (omega arith)
 
 module _ (s : List ℕ) (count : ℕ) (r : Points) (least i : ℕ) (p : Passed s count r least i) where
-  pub at_end : length s ≡ 5 * count → count ≤ i → (r.refusal ≡ fault (points_of s)) × (held r.x r.y r.z count ≡ points_of s)
+  pub at_end : length s ≡ 5 * count → count ≤ i → (0 ≡ fault (points_of s)) × (held r.x r.y r.z count ≡ points_of s)
   unfolding fault_from
   at_end len h =
       let e : i ≡ count = omega (arith, p.within) in
       let none : points_of (drop (5 * i) s) ≡ [] = points_end s (5 * i) (omega arith) in (
-        p.accepted ∙ sym (p.left ∙ ap (fault_from least) none),
+        sym (p.left ∙ ap (fault_from least) none),
         sym (append-nil (held r.x r.y r.z count)) ∙ (rw (none, e) at p.so_far),
       )
 
@@ -65,9 +64,9 @@ module _ (s : List ℕ) (count : ℕ) (r : Points) (least i : ℕ) (p : Passed s
     stops n e h = here ∙ stops_here (in_domain x y) (ltb (rank x y) least) _ (λ q. h (e ∙ q)) ∙ sym e
 
     pub goes_on : fault_by least x y 0 ≡ 0 → i < count → count ≤ 256 → (z : ℤ) → z ≡ signed 128 (get_or s (5 * i + 4) 0)
-        → (t : Points) → t.refusal ≡ r.refusal → t.x ≡ set r.x i x → t.y ≡ set r.y i y → t.z ≡ set r.z i z
+        → (t : Points) → t.x ≡ set r.x i x → t.y ≡ set r.y i y → t.z ≡ set r.z i z
         → Passed s count t (rank x y + 1) (i + 1)
-    goes_on none more few z ez t er tx ty tz =
+    goes_on none more few z ez t tx ty tz =
         let sized = p.sized in
         let next : 5 * (i + 1) ≡ 5 * i + 5 = omega arith in
         record {
@@ -77,7 +76,6 @@ module _ (s : List ℕ) (count : ℕ) (r : Points) (least i : ℕ) (p : Passed s
             y = rw (ty, length-set) sized.y;
             z = rw (tz, length-set) sized.z;
           };
-          accepted = er ∙ p.accepted;
           left = rw next (here ∙ passes_on (in_domain x y) (ltb (rank x y) least) _ none);
           so_far =
               rw (next, tx, ty, tz, held_set r.x r.y r.z i x y z (omega arith) (omega arith) (omega arith), append_assoc)

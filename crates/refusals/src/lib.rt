@@ -1,41 +1,38 @@
-// Why a call on the points that arrays hold is refused: document 01, "The bench", and 8 of a lookup lent too few neighbour records. The first number that applies, or 0.
+// Why a call on the points that arrays hold is refused: document 01, "The bench", and 8 of a lookup lent too few neighbour records. The first that applies.
 #![tactic(auto)]
 
 ghost use Rattle.std.specs.Prelude.{◌≡◌, List, min, ℤ, length};
 ghost use Rattle.model.specs.Point.{State, in_domain, in_range};
 ghost use Rattle.model.specs.Refusals.{on_domain, within_range, lookup_refusal, neighbours_refusal};
+ghost use Rattle.refusal.specs.Numbered.{code};
 ghost use Rattle.model.specs.Calls.{Add, Change, Drop, taken, refusal};
 ghost use Rattle.point_arrays.specs.PointArrays.{points_in, HoldsPoints};
+
+use refusal::Refusal;
 
 fn is_in_domain(x: u32, y: u32) -> bool
     ensures { result ≡ in_domain x y }
 {
-    if 4096 <= x {
-        return false;
-    }
-    y < 4096
+    x < 4096 && y < 4096
 }
 
 fn is_in_range(z: i32) -> bool
     ensures { result ≡ in_range z }
 {
-    if -128 <= z {
-        return z <= 127;
-    }
-    false
+    -128 <= z && z <= 127
 }
 
-// 1 or 2, or 0: of a location and a value, whatever the points are.
-fn of_values(x: u32, y: u32, z: i32) -> u8
-    ensures { result ≡ on_domain x y (within_range z 0) }
+// 1 or 2: of a location and a value, whatever the points are.
+fn of_values(x: u32, y: u32, z: i32) -> Result<(), Refusal>
+    ensures { code result ≡ on_domain x y (within_range z 0) }
 {
     if !is_in_domain(x, y) {
-        return 1;
+        return Err(Refusal::OffDomain);
     }
     if !is_in_range(z) {
-        return 2;
+        return Err(Refusal::OutOfRange);
     }
-    0
+    Ok(())
 }
 
 fn is_taken<'a>(xs: &'a [u16; 256], ys: &'a [u16; 256], n: usize, x: u32, y: u32) -> bool
@@ -44,70 +41,81 @@ fn is_taken<'a>(xs: &'a [u16; 256], ys: &'a [u16; 256], n: usize, x: u32, y: u32
     locate::find(xs, ys, n, x, y) < point_arrays::clamped(n)
 }
 
-pub fn of_add<'a>(xs: &'a [u16; 256], ys: &'a [u16; 256], n: usize, x: u32, y: u32, z: i32) -> u8
-    ensures { (s : State) (zs : List ℤ) → HoldsPoints s xs.now ys.now zs n → result ≡ refusal (Add x y z) s.contents }
+pub fn of_add<'a>(
+    xs: &'a [u16; 256],
+    ys: &'a [u16; 256],
+    n: usize,
+    x: u32,
+    y: u32,
+    z: i32,
+) -> Result<(), Refusal>
+    ensures { (s : State) (zs : List ℤ) → HoldsPoints s xs.now ys.now zs n → code result ≡ refusal (Add x y z) s.contents }
 {
-    let no = of_values(x, y, z);
-    if no != 0 {
-        return no;
-    }
+    of_values(x, y, z)?;
     if is_taken(xs, ys, n, x, y) {
-        return 3;
+        return Err(Refusal::Taken);
     }
     if 256 <= n {
-        return 5;
+        return Err(Refusal::Full);
     }
-    0
+    Ok(())
 }
 
-pub fn of_change<'a>(xs: &'a [u16; 256], ys: &'a [u16; 256], n: usize, x: u32, y: u32, z: i32) -> u8
-    ensures { (s : State) (zs : List ℤ) → HoldsPoints s xs.now ys.now zs n → result ≡ refusal (Change x y z) s.contents }
+pub fn of_change<'a>(
+    xs: &'a [u16; 256],
+    ys: &'a [u16; 256],
+    n: usize,
+    x: u32,
+    y: u32,
+    z: i32,
+) -> Result<(), Refusal>
+    ensures { (s : State) (zs : List ℤ) → HoldsPoints s xs.now ys.now zs n → code result ≡ refusal (Change x y z) s.contents }
 {
-    let no = of_values(x, y, z);
-    if no != 0 {
-        return no;
-    }
+    of_values(x, y, z)?;
     if !is_taken(xs, ys, n, x, y) {
-        return 4;
+        return Err(Refusal::Missing);
     }
-    0
+    Ok(())
 }
 
-pub fn of_drop<'a>(xs: &'a [u16; 256], ys: &'a [u16; 256], n: usize, x: u32, y: u32) -> u8
-    ensures { (s : State) (zs : List ℤ) → HoldsPoints s xs.now ys.now zs n → result ≡ refusal (Drop x y) s.contents }
+pub fn of_drop<'a>(
+    xs: &'a [u16; 256],
+    ys: &'a [u16; 256],
+    n: usize,
+    x: u32,
+    y: u32,
+) -> Result<(), Refusal>
+    ensures { (s : State) (zs : List ℤ) → HoldsPoints s xs.now ys.now zs n → code result ≡ refusal (Drop x y) s.contents }
 {
     if !is_in_domain(x, y) {
-        return 1;
+        return Err(Refusal::OffDomain);
     }
     if !is_taken(xs, ys, n, x, y) {
-        return 4;
+        return Err(Refusal::Missing);
     }
-    0
+    Ok(())
 }
 
 // Of a lookup in n points, whatever they are.
-pub fn of_lookup(n: usize, x: u32, y: u32) -> u8
-    ensures { (s : State) → length s.contents.points ≡ min n 256 → result ≡ lookup_refusal x y s }
+pub fn of_lookup(n: usize, x: u32, y: u32) -> Result<(), Refusal>
+    ensures { (s : State) → length s.contents.points ≡ min n 256 → code result ≡ lookup_refusal x y s }
 {
     if !is_in_domain(x, y) {
-        return 1;
+        return Err(Refusal::OffDomain);
     }
     if n == 0 {
-        return 6;
+        return Err(Refusal::Empty);
     }
-    0
+    Ok(())
 }
 
 // The same where `lent` neighbour records are lent.
-pub fn of_lookup_neighbours(n: usize, x: u32, y: u32, lent: usize) -> u8
-    ensures { (s : State) → length s.contents.points ≡ min n 256 → result ≡ neighbours_refusal x y lent s }
+pub fn of_lookup_neighbours(n: usize, x: u32, y: u32, lent: usize) -> Result<(), Refusal>
+    ensures { (s : State) → length s.contents.points ≡ min n 256 → code result ≡ neighbours_refusal x y lent s }
 {
-    let no = of_lookup(n, x, y);
-    if no != 0 {
-        return no;
-    }
+    of_lookup(n, x, y)?;
     if lent < 10 {
-        return 8;
+        return Err(Refusal::TooFewLent);
     }
-    0
+    Ok(())
 }

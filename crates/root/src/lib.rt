@@ -16,6 +16,7 @@ fn bit_of(four: u32, brought: u32) -> u32
     requires { (four < 2 ^ 31) × (brought < 2 ^ 31) }
     ensures { result ≡ cond (ltb four brought) 1 0 }
 {
+    // `as` here and in `distance_of`: `.ci/root_code.py` reads the program of these crates alone, and refuses a call of the library on the way of a root.
     ((four as i32) < brought as i32) as u32
 }
 
@@ -29,11 +30,7 @@ pub fn root_of(n: u64) -> u32
     let mut low = (n << 46 >> 32) as u32;
     let mut rest: u32 = 0;
     let mut root: u32 = 0;
-    let mut k: u32 = 0;
-    let d = loop {
-        if k == 25 {
-            break root;
-        }
+    for k in 0..25u32 {
         let brought = 4 * rest + (high >> 30);
         let four = 4 * root;
         let taken = four + 1;
@@ -42,13 +39,13 @@ pub fn root_of(n: u64) -> u32
         root = 2 * root + bit;
         high = (high << 2) + (low >> 30);
         low = low << 2;
-        k += 1;
-    };
-    d
+    }
+    root
 }
 
 // D of a squared distance. The C name is for whoever examines its machine code by itself.
 #[unsafe(no_mangle)]
+#[tactic(auto, unfolding(model::specs::Distance::distance_of))]
 pub extern "C" fn distance_of(d2: u32) -> u32
     ensures { result ≡ distance_of d2 }
 {
@@ -61,10 +58,8 @@ fn four_more(squares: &[u32; 12], known: [u32; 12], at: usize) -> [u32; 12]
     ensures { (i : ℕ) → i < at + 4 → get_or result i 0 ≡ distance_of (get_or squares.now i 0) }
 {
     let mut d = known;
-    let mut i = at;
-    while i < at + 4 {
+    for i in at..at + 4 {
         d[i] = distance_of(squares[i]);
-        i += 1;
     }
     d
 }
@@ -75,7 +70,8 @@ pub fn distances(squares: &[u32; 12], n: usize) -> [u32; 12]
     ensures { (i : ℕ) → i < n → get_or result i 0 ≡ distance_of (get_or squares.now i 0) }
 {
     let mut d = [0u32; 12];
-    let mut i: usize = 0;
+    // A `for` over the fours takes 3 instructions more of 1,098 with 4 of them, 2,100 with 8 and 3,102 with 12.
+    let mut i = 0;
     while i < n {
         let more = four_more(squares, d, i);
         d = more;
@@ -88,10 +84,7 @@ pub fn distances(squares: &[u32; 12], n: usize) -> [u32; 12]
 pub fn reach_of(r: u32) -> u32
     ensures { (d : ℕ) → d < 2 ^ 32 → leb d result ≡ leb (distance_of d) r }
 {
-    let n = r as u64;
+    let n = u64::from(r);
     let k = (n * n + 2 * n) >> 16;
-    if k < MOST {
-        return k as u32;
-    }
-    u32::MAX
+    k.min(MOST) as u32
 }

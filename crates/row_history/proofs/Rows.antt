@@ -10,6 +10,7 @@ use lib.ListN.{length, take, drop}
 use lib.Seq.{take-append-le}
 use contract.Lifetimes.{Lfts}
 use denote.MutBor.{MutBor}
+use Rattle.std.specs.Prelude.{Ok}
 use Rattle.model.specs.Point.{Contents}
 use Rattle.model.specs.Extent.{settled}
 use Rattle.model.specs.Calls.{fresh}
@@ -21,7 +22,6 @@ use Rattle.laws.proofs.HistoryInvariant.{history_invariant}
 use Rattle.laws.proofs.FillingLaws.{begin_accepted, contents_present, rows_first, no_rows}
 use Rattle.survey.specs.declared.Survey.{Survey}
 use Rattle.grid_rules.specs.declared.Grid.{Grid}
-use Rattle.grid_rules.specs.declared.Filled.TheVariants.{Cells}
 use Rattle.grid_rules.specs.GridOf.{grid_of}
 use Rattle.grid.proofs.FilledLaws.{filled_laid}
 use Rattle.grid.proofs.cells.Reads as Cells-of
@@ -73,7 +73,7 @@ module _ {cs ds : List RowCall} {g : Model-as-Grid} {s₀ s u : Survey} {f₀ f 
   rows_claimed = record { first_rows = first; right = λ r l. cells_right q (history_invariant (map survey_call cs)) g accepted r (omega (arith, few)) }
 
   -- and the front of what `grid::cells` writes in one go with the survey of the begin
-  pub rows_at_once : (κs : Lfts 1) (b : Grid) (out left : MutBor (List ℤ)) (n : ℕ) → grid_of b ≡ g → Cells-of.Post κs (s, (b, (out, tt))) (Cells n) (s, (b, (left, tt)))
+  pub rows_at_once : (κs : Lfts 1) (b : Grid) (out left : MutBor (List ℤ)) (n : ℕ) → grid_of b ≡ g → Cells-of.Post κs (s, (b, (out, tt))) (Ok n) (s, (b, (left, tt)))
       → flat_map (λ (r : GivenRow). r.cells) rows ≡ take (g.columns * length rows) left.now
   rows_at_once κs b out left n e p =
       let w = rw (there.survey ∙ ap settled (contents_present cs), e) at p in

@@ -6,6 +6,7 @@ use lib.Dec.{eqb}
 use lib.IntN.{ℤ}
 use lib.ListN.{length}
 use lib.Seq.{take-append_seam}
+use Rattle.std.specs.Prelude.{Ok, Err}
 use Rattle.model.specs.Lists.{laid}
 use Rattle.model.specs.Point.{Contents, State}
 use Rattle.model.specs.Extent.{settled}
@@ -17,7 +18,6 @@ use Rattle.grid_rules.specs.GridOf.{grid_of}
 use Rattle.survey.specs.StateOf.{state_of}
 use Rattle.history.proofs.Runs.{made}
 use Rattle.grid_rows.specs.declared.Filling.{Filling}
-use Rattle.grid_rows.specs.declared.RowAnswer.TheVariants.{Row, Refused}
 use Rattle.grid_rows.specs.FillingOf.{filling_of, rowed_as}
 use Rattle.row_history.specs.RowRuns.{written, MakesRow, calls, begins, fills, RowRuns, done, next}
 
@@ -26,7 +26,7 @@ given_row : (q : Contents) (m : Model-as-Filling) (d : List ℤ) → written (ro
 unfolding rowed_as row_into given_by
 given_row q m d = by_test (eqb (row_refusal m (length d)) 0)
   where
-    by_test : (t : Bool) → written (cond t (Row (next_row m).index (length (next_row m).cells)) (Refused (row_refusal m (length d)))) (cond t (laid (next_row m).cells d) d) ≡ cond t (next_row m ∷ []) []
+    by_test : (t : Bool) → written (cond t (Ok (record { index = (next_row m).index; cells = length (next_row m).cells })) (Err (row_refusal m (length d)))) (cond t (laid (next_row m).cells d) d) ≡ cond t (next_row m ∷ []) []
     by_test true = rw (take-append_seam (next_row m).cells _)
     by_test false = refl
 
@@ -42,8 +42,8 @@ begun_alike g e k = rw (e, k)
 makes : {c : RowCall} {s t : Survey} {f h : Filling} {rows : List GivenRow} → MakesRow c s f t h rows → (b : Session) → Agrees b s f → Agrees (after_row_call c b) t h × (rows ≡ given_by c b)
 unfolding after_row_call given_by
 makes (calls c s t f m) b e = (record { survey = made m b.contents e.survey; filling = e.filling }, refl)
-makes (begins s f g r p) b e = (record { survey = e.survey; filling = p.filling ∙ begun_alike (grid_of g) e.survey e.filling }, refl)
-makes (fills s f κs out left r p) b e = (
+makes (begins κs f h s g r p) b e = (record { survey = e.survey; filling = p.filling ∙ begun_alike (grid_of g) e.survey e.filling }, refl)
+makes (fills κs s f h out left r p) b e = (
   record { survey = e.survey; filling = p.1.0.filling ∙ ap (λ (m : Model-as-Filling). after_row m (length out.now)) e.filling },
   rw (p.0, p.1.1.0, e.filling) (given_row b.contents b.filling out.now),
 )

@@ -1,42 +1,34 @@
 // Add, change, drop and clear.
-use crate::step::Step;
-use crate::{journal, replies, step};
+use crate::{journal, replies};
 use print::Streams;
-use survey::{Reply, Survey};
+use survey::Survey;
 
-pub fn replied(io: &mut Streams, r: Reply) -> Step {
-    replies::edited(io, r.refusal);
-    let s = r.survey;
-    step::next(s)
+// x, y and z, four bytes each.
+pub fn add(io: &mut Streams, s: &mut Survey) -> Option<()> {
+    let a = journal::read(io, 12)?;
+    let r = survey::add(s, a.long(0), a.long(4), a.signed(8));
+    replies::edited(io, r);
+    Some(())
 }
 
 // x, y and z, four bytes each.
-pub fn add(io: &mut Streams, s: Survey) -> Step {
-    let a = journal::read(io, 12);
-    if !a.whole {
-        return step::bad_journal(io, s);
-    }
-    replied(io, survey::add(s, a.long(0), a.long(4), a.signed(8)))
-}
-
-// x, y and z, four bytes each.
-pub fn change(io: &mut Streams, s: Survey) -> Step {
-    let a = journal::read(io, 12);
-    if !a.whole {
-        return step::bad_journal(io, s);
-    }
-    replied(io, survey::change(s, a.long(0), a.long(4), a.signed(8)))
+pub fn change(io: &mut Streams, s: &mut Survey) -> Option<()> {
+    let a = journal::read(io, 12)?;
+    let r = survey::change(s, a.long(0), a.long(4), a.signed(8));
+    replies::edited(io, r);
+    Some(())
 }
 
 // x and y, four bytes each.
-pub fn drop(io: &mut Streams, s: Survey) -> Step {
-    let a = journal::read(io, 8);
-    if !a.whole {
-        return step::bad_journal(io, s);
-    }
-    replied(io, survey::drop(s, a.long(0), a.long(4)))
+pub fn drop(io: &mut Streams, s: &mut Survey) -> Option<()> {
+    let a = journal::read(io, 8)?;
+    let r = survey::drop(s, a.long(0), a.long(4));
+    replies::edited(io, r);
+    Some(())
 }
 
-pub fn clear(io: &mut Streams, s: Survey) -> Step {
-    replied(io, survey::clear(s))
+pub fn clear(io: &mut Streams, s: &mut Survey) -> Option<()> {
+    survey::clear(s);
+    replies::edited(io, Ok(()));
+    Some(())
 }

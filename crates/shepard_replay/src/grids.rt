@@ -2,8 +2,7 @@
 ghost use Rattle.std.specs.Prelude.{◌≤◌, length};
 
 use crate::journal::Arguments;
-use crate::step::Step;
-use crate::{journal, replies, show, step};
+use crate::{journal, replies, show};
 use grid_rules::Grid;
 use print::Streams;
 use survey::Survey;
@@ -27,18 +26,15 @@ fn cells_into(io: &mut Streams, s: Survey, g: Grid, lent: &mut [i16]) {
 }
 
 // The six numbers, and in four bytes m, how many cells are lent.
-pub fn cells(io: &mut Streams, s: Survey) -> Step {
-    let a = journal::read(io, 16);
-    if !a.whole {
-        return step::bad_journal(io, s);
-    }
+pub fn cells(io: &mut Streams, s: Survey) -> Option<()> {
+    let a = journal::read(io, 16)?;
     let m = a.long(12) as usize;
     if 8192 < m {
-        return step::bad_journal(io, s);
+        return None;
     }
     let mut lent = [-23131i16; 8192];
-    cells_into(io, s, grid_of(a), &mut lent[0..m]);
-    step::next(s)
+    cells_into(io, s, grid_of(a), &mut lent[..m]);
+    Some(())
 }
 
 fn file_into(io: &mut Streams, s: Survey, g: Grid, lent: &mut [u8])
@@ -58,20 +54,17 @@ fn esri_into(io: &mut Streams, s: Survey, g: Grid, lent: &mut [u8])
 }
 
 // The six numbers, and in four bytes m, how many bytes are lent: for the Esri ASCII grid or for the grid file.
-pub fn write(io: &mut Streams, s: Survey, as_esri: bool) -> Step {
-    let a = journal::read(io, 16);
-    if !a.whole {
-        return step::bad_journal(io, s);
-    }
+pub fn write(io: &mut Streams, s: Survey, as_esri: bool) -> Option<()> {
+    let a = journal::read(io, 16)?;
     let m = a.long(12) as usize;
     if 65536 < m {
-        return step::bad_journal(io, s);
+        return None;
     }
     let mut lent = [0xA5u8; 65536];
     if as_esri {
-        esri_into(io, s, grid_of(a), &mut lent[0..m]);
+        esri_into(io, s, grid_of(a), &mut lent[..m]);
     } else {
-        file_into(io, s, grid_of(a), &mut lent[0..m]);
+        file_into(io, s, grid_of(a), &mut lent[..m]);
     }
-    step::next(s)
+    Some(())
 }

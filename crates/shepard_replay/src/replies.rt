@@ -1,40 +1,43 @@
 // The line that answers a call.
 use crate::show;
-use grid::Filled;
-use grid_rows::RowAnswer;
+use grid_rows::FilledRow;
 use print::Streams;
-use survey::{Answer, Extent};
-use survey_file::Written;
+use refusal::Refusal;
+use survey::{Extent, Found};
 
-pub fn refused(io: &mut Streams, no: u8) {
+// For what is no call.
+pub fn bad_journal(io: &mut Streams) {
+    print::word(io, b"bad journal\n");
+}
+
+fn refused(io: &mut Streams, e: Refusal) {
     print::word(io, b"refused ");
-    print::number(io, no as u64);
+    print::number(io, u64::from(e.number()));
     print::line_feed(io);
 }
 
-// For a call that edits or begins; 0 is no refusal.
-pub fn edited(io: &mut Streams, refusal: u8) {
-    if refusal == 0 {
-        print::word(io, b"ok\n");
-        return;
+// For a call that edits or begins.
+pub fn edited(io: &mut Streams, r: Result<(), Refusal>) {
+    match r {
+        Ok(()) => print::word(io, b"ok\n"),
+        Err(e) => refused(io, e),
     }
-    refused(io, refusal);
 }
 
-pub fn found(io: &mut Streams, answer: i16, count: usize, radius: u32) {
+fn found(io: &mut Streams, f: Found) {
     print::word(io, b"found ");
-    print::signed(io, answer);
+    print::signed(io, f.answer);
     print::space(io);
-    print::number(io, count as u64);
+    print::number(io, f.count as u64);
     print::space(io);
-    print::number(io, radius as u64);
+    print::number(io, u64::from(f.radius));
     print::line_feed(io);
 }
 
-pub fn answered(io: &mut Streams, a: Answer) {
-    match a {
-        Answer::Found(answer, count, radius) => found(io, answer, count, radius),
-        Answer::Refused(no) => refused(io, no),
+pub fn answered(io: &mut Streams, r: Result<Found, Refusal>) {
+    match r {
+        Ok(f) => found(io, f),
+        Err(e) => refused(io, e),
     }
 }
 
@@ -67,32 +70,32 @@ fn counted(io: &mut Streams, name: &[u8], n: usize) {
     print::line_feed(io);
 }
 
-pub fn written(io: &mut Streams, w: Written) {
-    match w {
-        Written::Length(n) => counted(io, b"wrote", n),
-        Written::Refused(no) => refused(io, no),
+pub fn written(io: &mut Streams, r: Result<usize, Refusal>) {
+    match r {
+        Ok(n) => counted(io, b"wrote", n),
+        Err(e) => refused(io, e),
     }
 }
 
-pub fn filled(io: &mut Streams, f: Filled) {
-    match f {
-        Filled::Cells(n) => counted(io, b"cells", n),
-        Filled::Refused(no) => refused(io, no),
+pub fn filled(io: &mut Streams, r: Result<usize, Refusal>) {
+    match r {
+        Ok(n) => counted(io, b"cells", n),
+        Err(e) => refused(io, e),
     }
 }
 
 // A row's index, and how many cells it has.
-fn filled_row(io: &mut Streams, index: usize, n: usize) {
+fn filled_row(io: &mut Streams, f: FilledRow) {
     print::word(io, b"row ");
-    print::number(io, index as u64);
+    print::number(io, f.index as u64);
     print::space(io);
-    print::number(io, n as u64);
+    print::number(io, f.cells as u64);
     print::line_feed(io);
 }
 
-pub fn row(io: &mut Streams, a: RowAnswer) {
-    match a {
-        RowAnswer::Row(index, n) => filled_row(io, index, n),
-        RowAnswer::Refused(no) => refused(io, no),
+pub fn row(io: &mut Streams, r: Result<FilledRow, Refusal>) {
+    match r {
+        Ok(f) => filled_row(io, f),
+        Err(e) => refused(io, e),
     }
 }

@@ -1,40 +1,31 @@
 // A grid that is filled one row a call, beside the survey.
-use crate::step::Turn;
-use crate::{grids, journal, replies, show, step};
+use crate::{grids, journal, replies, show};
 use grid_rows::Filling;
 use print::Streams;
 use survey::Survey;
 
 // The six numbers.
-pub fn begin(io: &mut Streams, s: Survey, f: Filling) -> Turn {
-    let a = journal::read(io, 12);
-    if !a.whole {
-        return step::beside(step::bad_journal(io, s), f);
-    }
+pub fn begin(io: &mut Streams, s: Survey, f: &mut Filling) -> Option<()> {
+    let a = journal::read(io, 12)?;
     let r = grid_rows::begin(f, s, grids::grid_of(a));
-    replies::edited(io, r.refusal);
-    step::beside(step::next(s), r.filling)
+    replies::edited(io, r);
+    Some(())
 }
 
-fn row_into(io: &mut Streams, f: Filling, lent: &mut [i16]) -> Filling {
+fn row_into(io: &mut Streams, f: &mut Filling, lent: &mut [i16]) {
     let r = grid_rows::row(f, lent);
-    let answer = r.answer;
-    replies::row(io, answer);
+    replies::row(io, r);
     show::values(io, lent);
-    r.filling
 }
 
 // In four bytes m, how many cells are lent.
-pub fn row(io: &mut Streams, s: Survey, f: Filling) -> Turn {
-    let a = journal::read(io, 4);
-    if !a.whole {
-        return step::beside(step::bad_journal(io, s), f);
-    }
+pub fn row(io: &mut Streams, f: &mut Filling) -> Option<()> {
+    let a = journal::read(io, 4)?;
     let m = a.long(0) as usize;
     if 8192 < m {
-        return step::beside(step::bad_journal(io, s), f);
+        return None;
     }
     let mut lent = [-23131i16; 8192];
-    let t = row_into(io, f, &mut lent[0..m]);
-    step::beside(step::next(s), t)
+    row_into(io, f, &mut lent[..m]);
+    Some(())
 }

@@ -17,18 +17,12 @@ pub fn bytes(io: &mut Streams, lent: &[u8])
 }
 
 // A space and the value, of each cell.
-fn each_cell(io: &mut Streams, lent: &[i16]) {
-    let mut i = 0usize;
-    while i < lent.len() {
-        print::space(io);
-        print::signed(io, lent[i]);
-        i += 1;
-    }
-}
-
 pub fn values(io: &mut Streams, lent: &[i16]) {
     print::word(io, b"values");
-    each_cell(io, lent);
+    for cell in lent {
+        print::space(io);
+        print::signed(io, *cell);
+    }
     print::line_feed(io);
 }
 
@@ -43,13 +37,8 @@ pub fn untouched() -> [Record; 32] {
     }; 32]
 }
 
-// A value as a wider number.
-fn wide(z: i8) -> i16 {
-    z as i16
-}
-
 pub fn value(io: &mut Streams, z: i8) {
-    print::signed(io, wide(z));
+    print::signed(io, i16::from(z));
 }
 
 // What parts the fields of a record.
@@ -60,27 +49,15 @@ fn comma(io: &mut Streams) {
 // A space, and x, y, z, distance and kind.
 fn record(io: &mut Streams, r: Record) {
     print::space(io);
-    print::number(io, r.x as u64);
+    print::number(io, u64::from(r.x));
     comma(io);
-    print::number(io, r.y as u64);
+    print::number(io, u64::from(r.y));
     comma(io);
     value(io, r.z);
     comma(io);
-    print::number(io, r.distance as u64);
+    print::number(io, u64::from(r.distance));
     comma(io);
-    print::number(io, r.kind as u64);
-}
-
-// The first m records of the list.
-fn each_record(io: &mut Streams, list: [Record; 32], m: usize)
-    requires { m ≤ 32 }
-{
-    let mut i = 0usize;
-    while i < m {
-        let r = list[i];
-        record(io, r);
-        i += 1;
-    }
+    print::number(io, u64::from(r.kind));
 }
 
 // Of the list the first m were lent.
@@ -88,6 +65,8 @@ pub fn records(io: &mut Streams, list: [Record; 32], m: usize)
     requires { m ≤ 32 }
 {
     print::word(io, b"records");
-    each_record(io, list, m);
+    for r in &list[..m] {
+        record(io, *r);
+    }
     print::line_feed(io);
 }

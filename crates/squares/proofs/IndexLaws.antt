@@ -4,7 +4,7 @@ use Prim.Native.Nat.{ℕ, zero, suc, ◌≤◌, ◌<◌}
 use native.Mathlib.Omega.{arith}
 use mathlib.Core.Bool.{Bool, true, false, cond}
 use mathlib.Core.List.{List, [], ◌∷◌, ◌++◌, map, map-append, append-nil}
-use lib.ListN.{length, take, get_or, length-append}
+use lib.ListN.{length, take, get_or}
 use lib.Seq.{take-suc}
 use Rattle.model.specs.Lists.{All, Pairs}
 use Rattle.laws.proofs.Tests.{cond_cases}
@@ -20,15 +20,6 @@ module _ (t : ℕ → Bool) where
       all_append (λ i. i < suc n) (indices_of t n) (cond (t n) (n ∷ []) [])
       (all_imp (λ i. i < n) (λ i. i < suc n) (λ i h. omega arith) (indices_of t n) (indices_below n))
       (cond_cases (All (λ i. i < suc n)) (t n) (λ e. (omega arith, tt)) (λ e. tt))
-
-  pub length_indices : (n : ℕ) → length (indices_of t n) ≤ n
-  unfolding indices_of
-  length_indices zero = omega arith
-  length_indices (suc n) = go (t n) (length_indices n)
-    where
-      go : (u : Bool) → length (indices_of t n) ≤ n → length (indices_of t n ++ cond u (n ∷ []) []) ≤ suc n
-      go true ih = omega (arith, length-append (indices_of t n) (n ∷ []))
-      go false ih = rw append-nil (omega arith)
 
   pub indices_ascend : (n : ℕ) → Pairs (λ i j. i < j) (indices_of t n)
   unfolding indices_of

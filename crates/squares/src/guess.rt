@@ -1,37 +1,26 @@
 // A guess at a limit that five points are within, and few more. Nothing rests on it, so these functions promise no more than that they end.
-ghost use Rattle.std.specs.Prelude.{◌+◌, ◌≤◌, length};
+ghost use Rattle.std.specs.Prelude.{◌≡◌, ◌≤◌, length};
 
-fn lesser(a: u32, b: u32) -> u32 {
-    if a < b { a } else { b }
-}
-
-fn greater(a: u32, b: u32) -> u32 {
-    if a < b { b } else { a }
-}
-
-// Each of eight, or the square that many places behind index i where that is less.
-fn least_of_eight(squares: &[u32], i: usize, least: [u32; 8]) -> [u32; 8]
-    requires { i + 8 ≤ length squares.now }
+// Each of eight, or the square beside it where that is less.
+fn least_of_eight(least: [u32; 8], squares: &[u32]) -> [u32; 8]
+    requires { length squares.now ≡ 8 }
 {
     let mut a = least;
-    let mut j: usize = 0;
-    while j < 8 {
-        a[j] = lesser(a[j], squares[i + j]);
-        j += 1;
+    for i in 0..8 {
+        a[i] = a[i].min(squares[i]);
     }
     a
 }
 
-// The least squares of eight groups, each of every eighth point; up to seven points at the end are in none.
+// The least squares of eight groups, each of every eighth point; up to seven points at the end are in none. Eight are cut off by their indices, since
+// `chunks_exact` is a call at a type, and bench/operations.py, which runs the program, has no word for one.
 fn least_of_groups(squares: &[u32]) -> [u32; 8]
     requires { length squares.now ≤ 256 }
 {
     let mut least = [u32::MAX; 8];
-    let mut i: usize = 0;
-    while i + 8 <= squares.len() {
-        let next = least_of_eight(squares, i, least);
+    for i in 0..squares.len() / 8 {
+        let next = least_of_eight(least, &squares[8 * i..8 * i + 8]);
         least = next;
-        i += 8;
     }
     least
 }
@@ -40,12 +29,10 @@ fn least_of_groups(squares: &[u32]) -> [u32; 8]
 fn put(five: [u32; 5], n: u32) -> [u32; 5] {
     let mut a = five;
     let mut c = n;
-    let mut j: usize = 0;
-    while j < 5 {
-        let t = a[j];
-        a[j] = lesser(t, c);
-        c = greater(t, c);
-        j += 1;
+    for held in a.iter_mut() {
+        let t = *held;
+        *held = t.min(c);
+        c = t.max(c);
     }
     a
 }
@@ -53,11 +40,8 @@ fn put(five: [u32; 5], n: u32) -> [u32; 5] {
 // The fifth least of eight.
 fn fifth(eight: [u32; 8]) -> u32 {
     let mut five = [u32::MAX; 5];
-    let mut j: usize = 0;
-    while j < 8 {
-        let next = put(five, eight[j]);
-        five = next;
-        j += 1;
+    for n in eight {
+        five = put(five, n);
     }
     five[4]
 }

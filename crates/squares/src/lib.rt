@@ -18,10 +18,8 @@ pub fn fill<'a>(xs: &'a [u16; 256], ys: &'a [u16; 256], v: Viewpoint, out: &mut 
     ensures { (s : State) (p : Location) (zs : List ℤ) (n : ℕ) → HoldsPoints s xs.now ys.now zs n → Sees s p v
         → length out.old ≡ min n 256 → HoldsSquares s p out.new }
 {
-    let mut i: usize = 0;
-    while i < out.len() {
+    for i in 0..out.len() {
         out[i] = metric::squared_from(v, xs[i], ys[i]);
-        i += 1;
     }
 }
 
@@ -31,10 +29,8 @@ pub fn count_within(squares: &[u32], limit: u32) -> u32
     ensures { (result ≡ count_within limit squares.now) × Words squares.now }
 {
     let mut k: u32 = 0;
-    let mut i: usize = 0;
-    while i < squares.len() {
-        k += (squares[i] <= limit) as u32;
-        i += 1;
+    for d in squares {
+        k += u32::from(*d <= limit);
     }
     k
 }
@@ -45,11 +41,9 @@ pub fn indices_within(squares: &[u32], limit: u32, at: &mut [u8]) -> usize
     ensures { HoldsIndices limit squares.now result at.new }
 {
     let mut k: usize = 0;
-    let mut i: usize = 0;
-    while i < squares.len() {
+    for (i, d) in squares.iter().enumerate() {
         at[k] = i as u8;
-        k += (squares[i] <= limit) as usize;
-        i += 1;
+        k += usize::from(*d <= limit);
     }
     k
 }

@@ -17,8 +17,7 @@ pub(crate) fn sought(squares: &[u32], from: u32, to: u32, need: u32) -> u32
 {
     let mut low = from;
     let mut high = to;
-    let mut tries: u32 = 16;
-    while tries > 0 {
+    for _ in 0..16 {
         let limit = middle(low, high);
         let k = crate::count_within(squares, limit);
         if k < need {
@@ -29,7 +28,6 @@ pub(crate) fn sought(squares: &[u32], from: u32, to: u32, need: u32) -> u32
                 return high;
             }
         }
-        tries -= 1;
     }
     high
 }

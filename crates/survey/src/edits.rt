@@ -15,9 +15,9 @@ pub(crate) fn with_point(s: Survey, i: usize, x: u32, y: u32, z: i32) -> Survey
     let xs = s.x;
     let ys = s.y;
     let zs = s.z;
-    let a = shift::put_u16(xs, i, x as u16);
-    let b = shift::put_u16(ys, i, y as u16);
-    let c = shift::put_i8(zs, i, z as i8);
+    let a = shift::put(xs, i, x as u16);
+    let b = shift::put(ys, i, y as u16);
+    let c = shift::put(zs, i, z as i8);
     let mut t = s;
     t.x = a;
     t.y = b;
@@ -35,9 +35,9 @@ pub(crate) fn without_point(s: Survey, i: usize) -> Survey
     let xs = s.x;
     let ys = s.y;
     let zs = s.z;
-    let a = shift::cut_u16(xs, i);
-    let b = shift::cut_u16(ys, i);
-    let c = shift::cut_i8(zs, i);
+    let a = shift::cut(xs, i);
+    let b = shift::cut(ys, i);
+    let c = shift::cut(zs, i);
     let mut t = s;
     t.x = a;
     t.y = b;

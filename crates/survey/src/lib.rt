@@ -1,15 +1,16 @@
-// The survey: at most 256 points, ascending by x, then y. What is kept of them stands beside them. A call takes the survey by value; one that edits gives it back beside the refusal's number.
+// The survey: at most 256 points, ascending by x, then y. What is kept of them stands beside them. A call that edits is lent the survey, and gives why it is refused; one that asks takes it by value.
 #![tactic(auto)]
 
 mod edits;
 
-ghost use Rattle.std.specs.Prelude.{◌≡◌, ◌≤◌, length};
+ghost use Rattle.std.specs.Prelude.{◌≡◌, ◌≤◌, length, Ok};
 ghost use Rattle.model.specs.Point.{location};
 ghost use Rattle.model.specs.Extent.{settled};
 ghost use Rattle.model.specs.Refusals.{lookup_refusal};
 ghost use Rattle.model.specs.SurveyFile.{written_into};
 ghost use Rattle.model.specs.Calls.{Add, Change, Drop, Clear, Load, fresh as fresh_state};
 ghost use Rattle.extent.specs.Kept.{as_extent};
+ghost use Rattle.refusal.specs.Numbered.{numbered};
 ghost use Rattle.survey_file.specs.Written.{written_as};
 ghost use Rattle.lookup.specs.AnswersAs.{AnswersAs};
 ghost use Rattle.survey.specs.StateOf.{contents_in, state_of, Plain};
@@ -22,7 +23,7 @@ use metric::Viewpoint;
 use neighbour_records::RecordList;
 pub use neighbour_records::{Record, blank};
 use neighbours::Chosen;
-use survey_file::Written;
+use refusal::Refusal;
 
 #[derive(Clone, Copy)]
 pub struct Survey {
@@ -33,24 +34,18 @@ pub struct Survey {
     extent: Extent,
 }
 
-// What a call that edits gives: 0 or the refusal's number, and the survey, the same one where it is refused.
+// What a lookup gives: the answer in 256ths of a step, the count of chosen points and the radius R in 256ths of a step.
 #[derive(Clone, Copy)]
-pub struct Reply {
-    pub refusal: u8,
-    pub survey: Survey,
+pub struct Found {
+    pub answer: i16,
+    pub count: usize,
+    pub radius: u32,
 }
 
-// What a lookup gives: the answer in 256ths of a step, the count of chosen points and the radius R in 256ths of a step; or the refusal's number.
-#[derive(Clone, Copy)]
-pub enum Answer {
-    Found(i16, usize, u32),
-    Refused(u8),
-}
-
-// What a lookup with neighbours decides: its answer, and the records to write to the list that it was lent, none where it is refused.
+// What a lookup with neighbours decides: what it gives, and the records to write to the list that it was lent.
 #[derive(Clone, Copy)]
 pub struct Decision {
-    pub answer: Answer,
+    pub found: Found,
     pub list: RecordList,
 }
 
@@ -83,100 +78,68 @@ pub fn extent(s: Survey) -> Extent
     e
 }
 
-fn refused(no: u8, s: Survey) -> Reply
-    ensures { (result.refusal ≡ no) × (result.survey ≡ s) }
-{
-    Reply {
-        refusal: no,
-        survey: s,
-    }
-}
-
 // A new point: refusals 1, 2, 3, 5.
-pub fn add(s: Survey, x: u32, y: u32, z: i32) -> Reply
-    ensures { Replies (Add x y z) s result }
+pub fn add(s: &mut Survey, x: u32, y: u32, z: i32) -> Result<(), Refusal>
+    ensures { Replies (Add x y z) s.old result s.new }
 {
-    let no = refusals::of_add(&s.x, &s.y, s.count, x, y, z);
-    if no != 0 {
-        return refused(no, s);
-    }
+    refusals::of_add(&s.x, &s.y, s.count, x, y, z)?;
     let i = locate::rank(&s.x, &s.y, s.count, x, y);
-    let t = edits::with_point(s, i, x, y, z);
-    Reply {
-        refusal: no,
-        survey: edits::settled(t),
-    }
+    let t = edits::with_point(*s, i, x, y, z);
+    *s = edits::settled(t);
+    Ok(())
 }
 
 // Another value at a location: refusals 1, 2, 4.
-pub fn change(s: Survey, x: u32, y: u32, z: i32) -> Reply
-    ensures { Replies (Change x y z) s result }
+pub fn change(s: &mut Survey, x: u32, y: u32, z: i32) -> Result<(), Refusal>
+    ensures { Replies (Change x y z) s.old result s.new }
 {
-    let no = refusals::of_change(&s.x, &s.y, s.count, x, y, z);
-    if no != 0 {
-        return refused(no, s);
-    }
+    refusals::of_change(&s.x, &s.y, s.count, x, y, z)?;
     let i = locate::find(&s.x, &s.y, s.count, x, y);
-    let t = edits::with_value(s, i, x, y, z);
-    Reply {
-        refusal: no,
-        survey: edits::settled(t),
-    }
+    let t = edits::with_value(*s, i, x, y, z);
+    *s = edits::settled(t);
+    Ok(())
 }
 
 // A point taken out: refusals 1, 4.
-pub fn drop(s: Survey, x: u32, y: u32) -> Reply
-    ensures { Replies (Drop x y) s result }
+pub fn drop(s: &mut Survey, x: u32, y: u32) -> Result<(), Refusal>
+    ensures { Replies (Drop x y) s.old result s.new }
 {
-    let no = refusals::of_drop(&s.x, &s.y, s.count, x, y);
-    if no != 0 {
-        return refused(no, s);
-    }
+    refusals::of_drop(&s.x, &s.y, s.count, x, y)?;
     let i = locate::find(&s.x, &s.y, s.count, x, y);
-    let t = edits::without_point(s, i);
-    Reply {
-        refusal: no,
-        survey: edits::settled(t),
-    }
+    let t = edits::without_point(*s, i);
+    *s = edits::settled(t);
+    Ok(())
 }
 
 // All points taken out.
-pub fn clear(s: Survey) -> Reply
-    ensures { Replies Clear s result }
+pub fn clear(s: &mut Survey)
+    ensures { Replies Clear s.old (Ok tt) s.new }
 {
-    let mut t = s;
+    let mut t = *s;
     t.count = 0;
-    Reply {
-        refusal: 0,
-        survey: edits::settled(t),
-    }
+    *s = edits::settled(t);
 }
 
 // The points of a survey file in place of the survey's: refusals 9 to 15.
-pub fn load(s: Survey, file: &[u8]) -> Reply
-    ensures { Replies (Load file.now) s result }
+pub fn load(s: &mut Survey, file: &[u8]) -> Result<(), Refusal>
+    ensures { Replies (Load file.now) s.old result s.new }
 {
-    let f = survey_file::read(file);
-    if f.refusal != 0 {
-        return refused(f.refusal, s);
-    }
+    let f = survey_file::read(file)?;
     let xs = f.x;
     let ys = f.y;
     let zs = f.z;
-    let mut t = s;
+    let mut t = *s;
     t.x = xs;
     t.y = ys;
     t.z = zs;
     t.count = f.count;
-    Reply {
-        refusal: f.refusal,
-        survey: edits::settled(t),
-    }
+    *s = edits::settled(t);
+    Ok(())
 }
 
 // The survey file to the front of the lent bytes, and its length: refusal 8.
-pub fn write(s: Survey, out: &mut [u8]) -> Written
-    ensures value { result ≡ written_as (contents_in s).points (length out.old) }
+pub fn write(s: Survey, out: &mut [u8]) -> Result<usize, Refusal>
+    ensures value { numbered result ≡ written_as (contents_in s).points (length out.old) }
     ensures out_after { out.new ≡ written_into (contents_in s).points out.old }
 {
     survey_file::write(&s.x, &s.y, &s.z, s.count, out)
@@ -196,40 +159,35 @@ fn answered(s: Survey, x: u32, y: u32) -> Answered
     lookup::answer_at(&s.x, &s.y, &s.z, s.count, v, r0)
 }
 
-fn found(a: Answered) -> Answer
-    ensures { result ≡ Answer.Found a.answer a.chosen.count a.chosen.radius }
+fn reported(a: Answered) -> Found
+    ensures { (result.answer ≡ a.answer) × (result.count ≡ a.chosen.count) × (result.radius ≡ a.chosen.radius) }
 {
     let c: Chosen = a.chosen;
-    Answer::Found(a.answer, c.count, c.radius)
+    Found {
+        answer: a.answer,
+        count: c.count,
+        radius: c.radius,
+    }
 }
 
 // The interpolated value at a location: refusals 1, 6.
-pub fn lookup(s: Survey, x: u32, y: u32) -> Answer
-    ensures value { result ≡ looked_up (state_of s) x y }
-    ensures rounded { Rounded (state_of s) (location x y) result }
+pub fn lookup(s: Survey, x: u32, y: u32) -> Result<Found, Refusal>
+    ensures value { numbered result ≡ looked_up (state_of s) x y }
+    ensures rounded { Rounded (state_of s) (location x y) (numbered result) }
 {
-    let no = refusals::of_lookup(s.count, x, y);
-    if no != 0 {
-        return Answer::Refused(no);
-    }
+    refusals::of_lookup(s.count, x, y)?;
     let a = answered(s, x, y);
-    found(a)
+    Ok(reported(a))
 }
 
 // A lookup with neighbours where `lent` records are lent: refusals 1, 6, 8. The crate lending writes the records.
-pub fn decide(s: Survey, x: u32, y: u32, lent: usize) -> Decision
+pub fn decide(s: Survey, x: u32, y: u32, lent: usize) -> Result<Decision, Refusal>
     ensures { Decides (state_of s) x y lent result }
 {
-    let no = refusals::of_lookup_neighbours(s.count, x, y, lent);
-    if no != 0 {
-        return Decision {
-            answer: Answer::Refused(no),
-            list: neighbour_records::none(),
-        };
-    }
+    refusals::of_lookup_neighbours(s.count, x, y, lent)?;
     let a = answered(s, x, y);
-    Decision {
-        answer: found(a),
+    Ok(Decision {
+        found: reported(a),
         list: neighbour_records::records_of(a.chosen),
-    }
+    })
 }

@@ -1,6 +1,5 @@
 -- Facts that the proofs of this crate share; its theorems, SameSurvey; and what an answer tells, Told.
 pub mod Encoded
 pub mod Fitting
-pub mod Given
 pub mod SameSurvey
 pub mod Told

@@ -4,6 +4,9 @@
 ghost use Rattle.std.specs.Prelude.{◌≡◌, ◌++◌, ◌+◌, ◌*◌, ◌≤◌, length, drop};
 ghost use Rattle.model.specs.Bytes.{bytes2, bytes4, same};
 ghost use Rattle.model.specs.SurveyFile.{magic, trailer_check};
+ghost use Rattle.refusal.specs.Numbered.{code};
+
+use refusal::Refusal;
 
 // The magic: the last four of them.
 const MAGIC: [u8; 4] = *b"RLS1";
@@ -16,37 +19,32 @@ fn has_magic(s: &[u8], i: usize) -> bool
     numbers::same(&s[i..], &MAGIC)
 }
 
-// Refusals 9 to 13, or 0.
-pub fn check(file: &[u8]) -> u8
-    ensures { result ≡ trailer_check file.now 0 }
+// Refusals 9 to 13.
+#[tactic(auto, unfolding(model::specs::SurveyFile::trailer_check))]
+pub fn check(file: &[u8]) -> Result<(), Refusal>
+    ensures { code result ≡ trailer_check file.now 0 }
 {
     let len = file.len();
-    if len < 12 {
-        return 9;
-    }
-    if 65536 < len {
-        return 9;
+    if len < 12 || 65536 < len {
+        return Err(Refusal::FileLength);
     }
     let end = len - 12;
     if !has_magic(file, end + 8) {
-        return 10;
+        return Err(Refusal::Magic);
     }
     let count = numbers::word_at(file, end);
     if 256 < count {
-        return 11;
+        return Err(Refusal::Count);
     }
     let back = numbers::long_at(file, end + 2);
-    if back != 5 * count {
-        return 12;
-    }
-    if end < back {
-        return 12;
+    if back != 5 * count || end < back {
+        return Err(Refusal::BackDistance);
     }
     let start = end - back;
     if numbers::total(&file[start..end]) % 65536 != numbers::word_at(file, end + 6) {
-        return 13;
+        return Err(Refusal::Sum);
     }
-    0
+    Ok(())
 }
 
 // The trailer of n points whose record bytes have the sum `sum`.
@@ -54,19 +52,10 @@ pub fn of_records(n: usize, sum: usize) -> [u8; 12]
     requires { n ≤ 256 }
     ensures { result ≡ bytes2 n ++ bytes4 (5 * n) ++ bytes2 sum ++ magic }
 {
-    let back = 5 * n;
-    [
-        (n / 256 % 256) as u8,
-        (n % 256) as u8,
-        (back / 65536 / 256 % 256) as u8,
-        (back / 65536 % 256) as u8,
-        (back / 256 % 256) as u8,
-        (back % 256) as u8,
-        (sum / 256 % 256) as u8,
-        (sum % 256) as u8,
-        MAGIC[0],
-        MAGIC[1],
-        MAGIC[2],
-        MAGIC[3],
-    ]
+    let mut t = [0; 12];
+    t[..2].copy_from_slice(&(n as u16).to_be_bytes());
+    t[2..6].copy_from_slice(&(5 * n as u32).to_be_bytes());
+    t[6..8].copy_from_slice(&((sum % 65536) as u16).to_be_bytes());
+    t[8..].copy_from_slice(&MAGIC);
+    t
 }

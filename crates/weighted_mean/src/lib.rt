@@ -35,10 +35,8 @@ fn sums_of(ws: &[f64; 10], xs: &[f64; 10], n: usize) -> Sums
         weight: 0.0,
         value: 0.0,
     };
-    let mut i = 0usize;
-    while i < n {
+    for i in 0..n {
         s = with_item(s, ws[i], xs[i]);
-        i += 1;
     }
     s
 }

@@ -14,7 +14,7 @@ use neighbours::{Chosen, Neighbour};
 fn offset_product(a: i16, b: i16) -> i64
     ensures { result ≡ a *ℤ b }
 {
-    a as i64 * b as i64
+    i64::from(a) * i64::from(b)
 }
 
 // g, the inner product of the offsets of two neighbours.
@@ -30,7 +30,7 @@ fn product(a: Neighbour, b: Neighbour) -> u64
     requires { Small a × Small b }
     ensures { (result ≡ a.distance * b.distance) × (result ≤ 2 ^ 48) }
 {
-    (a.distance as u64) * (b.distance as u64)
+    u64::from(a.distance) * u64::from(b.distance)
 }
 
 // |D D' - 65,536 g| of two neighbours.
@@ -56,17 +56,13 @@ fn add_row(c: Chosen, i: usize, s: &[f64; 10], t: &mut [f64])
     requires has_factors { HasFactors (seen c) s.now c.count × HasTerms (seen c) t.old i }
     ensures { HasTerms (seen c) t.new (i + 1) }
 {
-    let items = c.items;
-    let a = items[i];
+    let a = c.items[i];
     let own = s[i];
     let mut sum = 0.0;
-    let mut j = 0usize;
-    while j < i {
-        let b = items[j];
-        let v = cosine_gap(a, b);
-        sum = sum + s[j] * v;
-        t[j] = t[j] + own * v;
-        j += 1;
+    for j in 0..i {
+        let v = cosine_gap(a, c.items[j]);
+        sum += s[j] * v;
+        t[j] += own * v;
     }
     t[i] = sum + 0.0;
 }
@@ -76,12 +72,9 @@ fn terms(c: Chosen, s: &[f64; 10]) -> [f64; 10]
     requires { Bounded c × HasFactors (seen c) s.now c.count }
     ensures { HasTerms (seen c) result c.count }
 {
-    let n = c.count;
     let mut t = [0.0; 10];
-    let mut i = 0usize;
-    while i < n {
+    for i in 0..c.count {
         add_row(c, i, s, &mut t);
-        i += 1;
     }
     t
 }
@@ -92,10 +85,8 @@ fn sum_of(xs: &[f64; 10], n: usize) -> f64
     ensures { result ≡ sum_f (λ i. get_or xs.now i nan) n }
 {
     let mut sum = 0.0;
-    let mut i = 0usize;
-    while i < n {
-        sum = sum + xs[i];
-        i += 1;
+    for x in &xs[..n] {
+        sum += *x;
     }
     sum
 }
@@ -112,15 +103,12 @@ pub(crate) fn weights_apart(c: Chosen) -> [f64; 10]
     requires { Bounded c × (all_edge (seen c).influence c.count ≡ false) }
     ensures { (i : ℕ) → i < c.count → get_or result i nan ≡ weight_f (seen c) i }
 {
-    let n = c.count;
     let s = factor::factors(c);
-    let total = sum_of(&s, n);
+    let total = sum_of(&s, c.count);
     let t = terms(c, &s);
     let mut w = [0.0; 10];
-    let mut i = 0usize;
-    while i < n {
+    for i in 0..c.count {
         w[i] = weight(s[i], t[i], total);
-        i += 1;
     }
     w
 }

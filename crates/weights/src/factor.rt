@@ -13,16 +13,9 @@ pub(crate) fn factors(c: Chosen) -> [f64; 10]
     requires { c.count ≤ 10 }
     ensures { (i : ℕ) → i < c.count → get_or result i nan ≡ factor_f ((seen c).influence i) }
 {
-    let items = c.items;
-    let n = c.count;
-    let few = c.few;
-    let radius = c.radius;
     let mut s = [0.0; 10];
-    let mut i = 0usize;
-    while i < n {
-        let a = items[i];
-        s[i] = factor_of(influence_at(few, radius, a.distance));
-        i += 1;
+    for i in 0..c.count {
+        s[i] = factor_of(influence_at(c.few, c.radius, c.items[i].distance));
     }
     s
 }
@@ -32,17 +25,10 @@ pub(crate) fn all_edge(c: Chosen) -> bool
     requires { c.count ≤ 10 }
     ensures { result ≡ all_edge (seen c).influence c.count }
 {
-    let items = c.items;
-    let n = c.count;
-    let few = c.few;
-    let radius = c.radius;
-    let mut i = 0usize;
-    while i < n {
-        let a = items[i];
-        if !is_edge(influence_at(few, radius, a.distance)) {
+    for a in &c.items[..c.count] {
+        if !is_edge(influence_at(c.few, c.radius, a.distance)) {
             return false;
         }
-        i += 1;
     }
     true
 }

@@ -1,4 +1,4 @@
-// Survey files as wholes, from bytes to bytes: made, counted and written anew.
+// Survey files as wholes, from bytes to bytes: made, counted and written anew. Answers and lent numbers are those that C asks for.
 #![tactic(auto)]
 
 ghost use Rattle.model.specs.SurveyFile.{file_refusal, file_points};
@@ -17,11 +17,10 @@ pub fn fresh(out: &mut [u8], length: &mut usize) -> u8
 pub fn check(file: &[u8], count: &mut usize) -> u8
     ensures { Counts file.now count.old result count.new }
 {
-    let loaded = file_access::read(file);
-    if loaded.refusal != 0 {
-        return loaded.refusal;
-    }
-    let s = loaded.survey;
+    let s = match file_access::read(file) {
+        Ok(s) => s,
+        Err(e) => return e.number(),
+    };
     *count = survey::count(s);
     0
 }
@@ -31,5 +30,8 @@ pub fn rewrite(file: &[u8], out: &mut [u8], length: &mut usize) -> u8
     ensures { Writes (file_refusal file.now) (file_points file.now) out.old length.old
         result out.new length.new }
 {
-    file_access::save(file_access::read(file), out, length)
+    match file_access::read(file) {
+        Ok(s) => file_access::write(s, out, length),
+        Err(e) => e.number(),
+    }
 }

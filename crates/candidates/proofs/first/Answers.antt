@@ -15,7 +15,7 @@ first_keys-keys-requires c =
 
 pub returns-clause-holds_first : goal.returns-clause-holds_first
 returns-clause-holds_first c =
-    let n = c.at_most_11-n.ensures in
+    let n = c.min-n.ensures in
     let h = c.indices_within-found.ensures in
     let a = c.args in
     λ s p m g e.
@@ -25,5 +25,5 @@ returns-clause-holds_first c =
       items =
           c.of_keys.ensures.0
           ∙ rw (c.first_keys-keys.ensures, h.indices)
-          (first_are s p a.xs.now a.ys.now a.zs.now m g a.squares.now c.requires.1 e a.limit c.at_most_11-n.result (omega (arith, n)) (omega (arith, n, h.count)));
+          (first_are s p a.xs.now a.ys.now a.zs.now m g a.squares.now c.requires.1 e a.limit c.min-n.result (omega (arith, n)) (omega (arith, n, h.count)));
     }

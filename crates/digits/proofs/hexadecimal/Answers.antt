@@ -11,21 +11,18 @@ use Rattle.digits.proofs.hexadecimal.Goals as goal
 
 pub loop-i-init : goal.loop-i-init
 unfolding flat_map
-loop-i-init c = (omega arith, refl, refl)
+loop-i-init c = (refl, refl)
 
 pub loop-i-preserved : goal.loop-i-preserved
 loop-i-preserved c =
-    let q = c in
-    let r = q in
-    let l = r.loop-i in
-    let a = r.args in
-    let i = l.i in
-    let e = laid_more hex_pair 2 (λ _. refl) a.s.now 0 i (length l.out - 2 * i) a.out.now l.out (omega arith) (omega arith) l.invariant.2 in
-    (omega arith, omega arith, rw (q.copy.ensures.laid, r.hex_pair-b.ensures) e)
+    let l = c.loop-i in
+    let a = c.args in
+    let e = laid_more hex_pair 2 (λ _. refl) a.s.now 0 l.i (length l.out - 2 * l.i) a.out.now l.out (omega arith) (omega arith) l.invariant.1 in
+    (omega arith, rw (c.copy.ensures.laid, c.hex_pair.ensures) e)
 
 pub returns : goal.returns
 unfolding hexadecimal
 returns c =
     let l = c.loop-i in
     let s = c.args.s.now in
-    rw (take_all l.i s (omega arith)) at l.invariant.2
+    rw (take_all l.i s (omega arith)) at l.invariant.1

@@ -13,7 +13,7 @@ use mir.Facts.{to_z-of_z}
 use borrow.Rule.Slice.PartMut.{mid_of, put_mid}
 use Rattle.model.specs.Lists.{laid}
 use Rattle.laws.proofs.Stores.{laid_after}
-use Rattle.numbers.proofs.Signs.{below_zero, from_zero}
+use Rattle.digits.proofs.Signs.{below_zero, from_zero}
 use Rattle.model.specs.Decimal.{places, decimal, signed_decimal}
 use Rattle.laws.proofs.DecimalLaws.{places_most, length_digits}
 use Rattle.digits.proofs.signed.Goals as goal

@@ -1,5 +1,5 @@
 -- `spell` meets its contract. The invariant: the digits still to write and the bytes written after them are the digits of n.
-use mathlib.Core.Path.{◌≡◌, refl}
+use mathlib.Core.Path.{◌≡◌}
 use mathlib.Core.List.{List, ◌++◌, append-nil}
 use Prim.Native.Nat.{ℕ, zero, suc, ◌+◌, ◌-◌, ◌/◌, ◌%◌, ◌≤◌, ◌<◌}
 use native.Mathlib.Numerals.{sub-one}
@@ -20,16 +20,14 @@ turn (suc j) rest out p h =
     rw (sub-one, drop-cons (set out j d) j 0 l, get_or-set_same out j d 0 h, drop-set-lt (suc j) out j d (omega arith), append_snoc)
 
 pub loop-i-init : goal.loop-i-init
-loop-i-init c = (refl, omega arith, rw (drop-length, append-nil))
+loop-i-init c = rw (drop-length, append-nil)
 
 pub loop-i-preserved : goal.loop-i-preserved
-loop-i-preserved c =
-    let l = c.loop-i in
-    (simp length-set l.invariant.0, simp length-set (omega arith), rw (turn l.i l.rest l.out (omega arith) (omega arith)) l.invariant.2)
+loop-i-preserved c = let l = c.loop-i in rw (turn l.i l.rest l.out (omega arith) (omega arith)) l.invariant
 
 pub returns : goal.returns
 unfolding digits_of
 returns c =
     let l = c.loop-i in
     let e : l.i ≡ 0 = omega arith in
-    rw e at l.invariant.2
+    rw e at l.invariant

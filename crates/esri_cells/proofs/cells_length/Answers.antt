@@ -12,18 +12,17 @@ use Rattle.esri_cells.specs.Sizes.{cells_length}
 use Rattle.esri_cells.proofs.Lines.{sizes_more}
 use Rattle.esri_cells.proofs.cells_length.Goals as goal
 
-pub loop-i-preserved : goal.loop-i-preserved
-loop-i-preserved c =
-    let l = c.loop-i in
+pub loop-v-preserved : goal.loop-v-preserved
+loop-v-preserved c =
+    let i = c.loop-v.v-index in
     let v = c.args.values.now in
-    let f : SFits w16 (get_or v l.i (pos 0)) = search rules in
+    let f : SFits w16 (get_or v i (pos 0)) = search rules in
     let e = rw (to_z-of_z f) at c.cell_length.ensures.0 in
-    let m = sizes_more v l.i (omega arith) in
-    (omega arith, omega arith, omega (arith, e, m), omega arith)
+    (omega (arith, e, sizes_more v i (omega arith)), omega arith)
 
 pub returns : goal.returns
 returns c =
-    let l = c.loop-i in
+    let l = c.loop-v in
     let v = c.args.values.now in
-    let e : drop l.i v ≡ [] = drop_of_length-le v {i = l.i} (omega arith) in
+    let e : drop l.v-index v ≡ [] = drop_of_length-le v {i = l.v-index} (omega arith) in
     (omega (arith, ap cells_length e), omega arith)

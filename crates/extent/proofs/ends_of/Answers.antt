@@ -15,17 +15,17 @@ loop-i-init c =
     let b = c in
     let a = b.args in
     let z : SFits w8 (get_or a.zs.now 0 (pos 0)) = search rules in
-    (omega arith, omega arith, ends_first a.xs.now a.ys.now a.zs.now _ _ _ _ c.coordinate.ensures c.coordinate-2.ensures (to_z-of_z z) c.ends_at-e.ensures)
+    ends_first a.xs.now a.ys.now a.zs.now _ _ _ _ c.coordinate.ensures c.coordinate-2.ensures (to_z-of_z z) c.ends_at-e.ensures
 
 pub loop-i-preserved : goal.loop-i-preserved
 loop-i-preserved c =
     let l = c.loop-i in
     let a = c.args in
     let z : SFits w8 (get_or a.zs.now l.i (pos 0)) = search rules in
-    (omega arith, omega arith, ends_next a.xs.now a.ys.now a.zs.now l.i _ _ _ _ _ l.invariant.0 (omega arith) c.coordinate-in-loop-i.ensures c.coordinate-in-loop-i-2.ensures (to_z-of_z z) c.widened-e.ensures l.invariant.2)
+    ends_next a.xs.now a.ys.now a.zs.now l.i _ _ _ _ _ (omega arith) (omega arith) c.coordinate-in-loop-i.ensures c.coordinate-in-loop-i-2.ensures (to_z-of_z z) c.widened-e.ensures l.invariant
 
 pub returns : goal.returns
 returns c =
     let l = c.loop-i in
     let e : l.i ≡ c.args.m = omega arith in
-    rw (← e) l.invariant.2
+    rw (← e) l.invariant

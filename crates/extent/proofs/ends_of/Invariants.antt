@@ -1,11 +1,7 @@
 -- `ends_of` meets its contract. The invariant: the ends are those of the first i points.
-use Prim.Native.Nat.{◌-◌, ◌≤◌, ◌<◌}
 use Rattle.point_arrays.specs.PointArrays.{points_in}
 use Rattle.extent.specs.Kept.{EndsOf}
 use Rattle.extent.proofs.ends_of.Given as goal
 
 abbrev pub invariant-loop-i : goal.invariant-loop-i
-invariant-loop-i l = (0 < l.i) × (l.i ≤ l.m) × EndsOf (points_in l.xs l.ys l.zs l.i) l.e
-
-abbrev pub decreases-loop-i : goal.decreases-loop-i
-decreases-loop-i l = l.m - l.i
+invariant-loop-i l = EndsOf (points_in l.xs l.ys l.zs l.i) l.e

@@ -15,9 +15,9 @@ returns c = λ l h was.
     let high : SFits w8 a.e.greatest_z = search rules in
     let z : SFits w8 a.z = b.ranges.z in
     ends_more l a.e _ a.x a.y a.z h was
-    c.least.ensures
-    c.greatest.ensures
-    c.least-2.ensures
-    c.greatest-2.ensures
+    c.min.ensures
+    c.max.ensures
+    c.min-2.ensures
+    c.max-2.ensures
     (to_z-of_z {w = w8} (record { sfits = c.lesser.type_inv }) ∙ rw (to_z-of_z low, to_z-of_z z) at c.lesser.ensures)
     (to_z-of_z {w = w8} (record { sfits = c.greater.type_inv }) ∙ rw (to_z-of_z high, to_z-of_z z) at c.greater.ensures)

@@ -7,12 +7,12 @@ use borrow.Author.Rules.{rules}
 use Rattle.file_access.specs.Access.{AnswerTold}
 use Rattle.file_access.proofs.tell_answer.Goals as goal
 
-pub returns-in-Found : goal.returns-in-Found
+pub returns-in-Ok : goal.returns-in-Ok
 unfolding AnswerTold
-returns-in-Found c =
-    let f : SFits w16 c.in-Found.v = search rules in
-    rw c.in-Found.is (refl, to_z-of_z f, refl, refl)
+returns-in-Ok c =
+    let f : SFits w16 c.in-Ok.f.answer = search rules in
+    rw c.in-Ok.is (refl, to_z-of_z f, refl, refl)
 
-pub returns-in-Refused : goal.returns-in-Refused
+pub returns-in-Err : goal.returns-in-Err
 unfolding AnswerTold
-returns-in-Refused c = rw c.in-Refused.is (refl, refl, refl, refl)
+returns-in-Err c = rw (c.in-Err.is, c.number.ensures) (refl, refl, refl, refl)

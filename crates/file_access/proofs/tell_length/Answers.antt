@@ -3,10 +3,10 @@ use mathlib.Core.Path.{refl}
 use Rattle.file_access.specs.Access.{LengthTold}
 use Rattle.file_access.proofs.tell_length.Goals as goal
 
-pub returns-in-Length : goal.returns-in-Length
+pub returns-in-Ok : goal.returns-in-Ok
 unfolding LengthTold
-returns-in-Length c = rw c.in-Length.is (refl, refl)
+returns-in-Ok c = rw c.in-Ok.is (refl, refl)
 
-pub returns-in-Refused : goal.returns-in-Refused
+pub returns-in-Err : goal.returns-in-Err
 unfolding LengthTold
-returns-in-Refused c = rw c.in-Refused.is (refl, refl)
+returns-in-Err c = rw (c.in-Err.is, c.number.ensures) (refl, refl)

@@ -1,7 +1,7 @@
 -- `fill_row` meets its contract: every lookup is accepted, and finds the next cell's value.
 -- The invariant: the cells up to c hold the values of the first c columns.
 use mathlib.Core.Path.{◌≡◌}
-use Prim.Native.Nat.{ℕ, ◌-◌, ◌≤◌, ◌<◌}
+use Prim.Native.Nat.{ℕ, ◌<◌}
 use lib.ListN.{length, take}
 use Rattle.model.specs.Lists.{tabulate}
 use Rattle.survey.specs.StateOf.{state_of}
@@ -11,8 +11,5 @@ use Rattle.grid_cells.proofs.fill_row.Given as goal
 
 abbrev pub invariant-loop-c : goal.invariant-loop-c
 invariant-loop-c l =
-    (l.c ≤ length l.out) × (length l.out ≡ l.g.columns) × (take l.c l.out ≡ tabulate (cell_at (state_of l.s) (grid_of l.g) l.r) l.c)
+    (length l.out ≡ l.g.columns) × (take l.c l.out ≡ tabulate (cell_at (state_of l.s) (grid_of l.g) l.r) l.c)
     × ((i : ℕ) → i < l.c → CellRight (state_of l.s) (grid_of l.g) l.r i)
-
-abbrev pub decreases-loop-c : goal.decreases-loop-c
-decreases-loop-c l = length l.out - l.c

@@ -1,5 +1,6 @@
 -- `run_calls_text` meets its contract: the text is that of what the calls leave.
 use Rattle.model.specs.Calls.{present}
+use Rattle.refusal.specs.Numbered.{numbered}
 use Rattle.history.specs.Encoding.{calls}
 use Rattle.grid_rules.specs.GridOf.{grid_of}
 use Rattle.grid_history.proofs.ClaimLaws.{claim_text}
@@ -13,5 +14,5 @@ returns c =
     record {
       value = e.value;
       out_after = e.out_after;
-      claim_text = claim_text (grid_of a.g) q a.out.now c.write.result c.write.new.out e.value e.out_after e.written_right;
+      claim_text = claim_text (grid_of a.g) q a.out.now (numbered c.write.result) c.write.new.out e.value e.out_after e.written_right;
     }

@@ -4,12 +4,12 @@ use Rattle.survey.specs.StateOf.{state_of}
 use Rattle.grid_rows.proofs.Fillings.{begin_refuses, begin_accepts}
 use Rattle.grid_rows.proofs.begin.Goals as goal
 
-pub returns-then-no-ne0 : goal.returns-then-no-ne0
-returns-then-no-ne0 c =
+pub returns-in_err-refusal : goal.returns-in_err-refusal
+returns-in_err-refusal c =
     let a = c.args in
-    begin_refuses a.before a.s a.g c.refusal-no.result (c.refusal-no.ensures (state_of a.s) (sym c.count.ensures.0)) c.if-no-ne0.true
+    begin_refuses a.f.now a.s a.g _ _ c.from_residual.ensures.1 (c.in_err-refusal.ensures (state_of a.s) (sym c.count.ensures.0))
 
 pub returns : goal.returns
 returns c =
     let a = c.args in
-    begin_accepts a.before a.s a.g c.refusal-no.result (c.refusal-no.ensures (state_of a.s) (sym c.count.ensures.0)) c.if-no-ne0.false
+    begin_accepts a.f.now a.s a.g (c.in_ok-refusal.ensures (state_of a.s) (sym c.count.ensures.0))

@@ -1,75 +1,49 @@
 -- `check` meets its contract: each answer cites the law of the first check that fails, with the facts of those before it.
-use mathlib.Core.Path.{◌≡◌, sym, ap, ◌∙◌}
+use mathlib.Core.Path.{sym, ap, ◌∙◌}
 use mathlib.Core.Logic.{inl, inr}
 use native.Mathlib.Omega.{arith}
-use Prim.Native.Nat.{ℕ, ◌+◌, ◌*◌, ◌-◌}
-use mathlib.Core.Bool.{cond}
-use lib.ListN.{length}
-use Rattle.model.specs.Grid.{Grid, proper, cell_count}
-use Rattle.model.specs.GridFile.{grid_magic, grid_in}
-use Rattle.model.specs.GridReading.{grid_of_file, grid_magic_in}
-use Rattle.laws.proofs.Tests.{cond_sound}
-use Rattle.laws.proofs.ListLaws.{rest_whole}
+use Prim.Native.Nat.{ℕ, ◌+◌, ◌*◌}
+use Rattle.model.specs.GridFile.{grid_magic}
+use Rattle.model.specs.GridReading.{grid_magic_in}
 use Rattle.laws.proofs.TrailerLaws.{same_true}
 use Rattle.laws.proofs.GridReadLaws.{length_ends, readable_check}
-use Rattle.grid_rules.specs.GridOf.{grid_of}
-use Rattle.grid_trailer.proofs.Checks.{broken, check_nine, check_ten, check_seven, check_twelve}
+use Rattle.refusal.proofs.Coded.{never_0, passed_on}
+use Rattle.grid_trailer.proofs.Checks.{seven, broken, kept, counted, check_seven, check_twelve}
+use Rattle.grid_trailer.proofs.check.Goals.{then-long_at-cells-via-then-long_at-cells, then-long_at-cells-via-else-long_at-cells+then-len-cells}
 use Rattle.grid_trailer.proofs.check.Goals as goal
 
-pub returns-then-not-has_length : goal.returns-then-not-has_length
-returns-then-not-has_length c = sym (check_nine _ (sym c.has_length.ensures ∙ c.if-not-has_length.true))
-
 pub overflow_sub-end : goal.overflow_sub-end
-overflow_sub-end c =
-    let h = sym c.has_length.ensures ∙ c.if-not-has_length.false in
-    (length_ends _ h).0
+overflow_sub-end c = (length_ends _ (sym c.has_length.ensures ∙ c.if-not-has_length.false)).0
 
 pub has_magic-requires : goal.has_magic-requires
-has_magic-requires c =
-    let some = sym c.has_length.ensures ∙ c.if-not-has_length.false in
-    omega (arith, (length_ends _ some).0)
+has_magic-requires c = omega (arith, (length_ends _ (sym c.has_length.ensures ∙ c.if-not-has_length.false)).0)
 
-pub returns-then-not-has_magic : goal.returns-then-not-has_magic
-returns-then-not-has_magic c =
-    let some = sym c.has_length.ensures ∙ c.if-not-has_length.false in
-    sym (check_ten _ some (sym c.has_magic.ensures ∙ c.if-not-has_magic.true))
-
-pub returns-then-rules_refusal-ne0 : goal.returns-then-rules_refusal-ne0
-returns-then-rules_refusal-ne0 c =
-    let f = c.args.file.now in
+pub returns-in_err-rules_refusal : goal.returns-in_err-rules_refusal
+returns-in_err-rules_refusal c =
     let some = sym c.has_length.ensures ∙ c.if-not-has_length.false in
     let marked = sym c.has_magic.ensures ∙ c.if-not-has_magic.false in
-    let six : grid_of c.grid_of-g.result ≡ grid_of_file f = c.grid_of-g.ensures ∙ ap grid_in (rest_whole (length f - 20) f) in
-    sym (check_seven f some marked (broken _ (λ z. c.if-rules_refusal-ne0.true (c.rules_refusal.ensures ∙ ap (λ (k : Grid). cond (proper k) 0 7) six ∙ z))))
+    let e = c.in_err-rules_refusal.field-0.0 in
+    let f = c.args.file.now in
+    let n = c.in_err-rules_refusal.ensures in
+    passed_on _ e c.from_residual.ensures.1 ∙ seven _ n (never_0 e) ∙ sym (check_seven f some marked (broken f _ c.grid_of-g.ensures _ n (never_0 e)))
 
 pub returns-then-long_at-cells : goal.returns-then-long_at-cells
 returns-then-long_at-cells c =
-    let f = c.args.file.now in
     let some = sym c.has_length.ensures ∙ c.if-not-has_length.false in
     let marked = sym c.has_magic.ensures ∙ c.if-not-has_magic.false in
-    let six : grid_of c.grid_of-g.result ≡ grid_of_file f = c.grid_of-g.ensures ∙ ap grid_in (rest_whole (length f - 20) f) in
-    let kept = (cond_sound (proper (grid_of_file f)) 6 0 (sym (c.rules_refusal.ensures ∙ ap (λ (c : Grid). cond (proper c) 0 7) six) ∙ c.if-rules_refusal-ne0.false)).0 in
-    let count : c.cell_count-cells.result ≡ cell_count (grid_of_file f) = c.cell_count-cells.ensures.0 ∙ ap (λ (c : Grid). cell_count c) six in
-    sym (check_twelve f some marked kept (inl (λ z. c.if-long_at-cells.true (c.long_at.ensures.value ∙ z ∙ ap (λ (n : ℕ). 2 * n) (sym count)))))
-
-pub returns-then-len-cells : goal.returns-then-len-cells
-returns-then-len-cells c =
-    let f = c.args.file.now in
-    let some = sym c.has_length.ensures ∙ c.if-not-has_length.false in
-    let marked = sym c.has_magic.ensures ∙ c.if-not-has_magic.false in
-    let six : grid_of c.grid_of-g.result ≡ grid_of_file f = c.grid_of-g.ensures ∙ ap grid_in (rest_whole (length f - 20) f) in
-    let kept = (cond_sound (proper (grid_of_file f)) 6 0 (sym (c.rules_refusal.ensures ∙ ap (λ (c : Grid). cond (proper c) 0 7) six) ∙ c.if-rules_refusal-ne0.false)).0 in
-    let count : c.cell_count-cells.result ≡ cell_count (grid_of_file f) = c.cell_count-cells.ensures.0 ∙ ap (λ (c : Grid). cell_count c) six in
-    sym (check_twelve f some marked kept (inr (λ z. c.if-len-cells.true (z ∙ ap (λ (n : ℕ). 2 * n + 20) (sym count)))))
+    let rules = kept c.args.file.now _ c.grid_of-g.ensures (sym c.in_ok-rules_refusal.ensures) in
+    let count = counted c.args.file.now _ c.grid_of-g.ensures _ c.cell_count-cells.ensures.0 in
+    sym (check_twelve _ some marked rules (elim c.then-long_at-cells.branch [
+      | then-long_at-cells-via-then-long_at-cells w ↦ inl (λ z. w.if-long_at-cells.true (c.long_at.ensures.value ∙ z ∙ ap (λ (n : ℕ). 2 * n) (sym count)))
+      | then-long_at-cells-via-else-long_at-cells+then-len-cells w ↦ inr (λ z. w.if-len-cells.true (z ∙ ap (λ (n : ℕ). 2 * n + 20) (sym count)))
+    ]))
 
 pub returns : goal.returns
 returns c =
-    let f = c.args.file.now in
     let some = sym c.has_length.ensures ∙ c.if-not-has_length.false in
     let marked = sym c.has_magic.ensures ∙ c.if-not-has_magic.false in
-    let six : grid_of c.grid_of-g.result ≡ grid_of_file f = c.grid_of-g.ensures ∙ ap grid_in (rest_whole (length f - 20) f) in
-    let kept = (cond_sound (proper (grid_of_file f)) 6 0 (sym (c.rules_refusal.ensures ∙ ap (λ (c : Grid). cond (proper c) 0 7) six) ∙ c.if-rules_refusal-ne0.false)).0 in
-    let count : c.cell_count-cells.result ≡ cell_count (grid_of_file f) = c.cell_count-cells.ensures.0 ∙ ap (λ (c : Grid). cell_count c) six in
+    let rules = kept c.args.file.now _ c.grid_of-g.ensures (sym c.in_ok-rules_refusal.ensures) in
+    let count = counted c.args.file.now _ c.grid_of-g.ensures _ c.cell_count-cells.ensures.0 in
     let back = sym c.long_at.ensures.value ∙ c.if-long_at-cells.false ∙ ap (λ (n : ℕ). 2 * n) count in
     let size = c.if-len-cells.false ∙ ap (λ (n : ℕ). 2 * n + 20) count in
-    sym (readable_check f 0 (record { some = some; marked = same_true (grid_magic_in f) grid_magic marked; rules = kept; back = back; size = size }))
+    sym (readable_check _ 0 (record { some = some; marked = same_true (grid_magic_in c.args.file.now) grid_magic marked; rules = rules; back = back; size = size }))

@@ -1,6 +1,6 @@
 -- `left_by` meets its contract. The invariant: the survey holds some contents, from which the calls that are left lead to what all of them leave.
 use mathlib.Core.Path.{◌≡◌}
-use Prim.Native.Nat.{◌-◌, ◌≤◌}
+use Prim.Native.Nat.{◌≤◌}
 use lib.ListN.{length}
 use Rattle.model.specs.Point.{Contents}
 use Rattle.model.specs.Extent.{settled}
@@ -12,7 +12,4 @@ use Rattle.history.proofs.left_by.Given as goal
 
 abbrev pub invariant-loop-i : goal.invariant-loop-i
 invariant-loop-i l =
-    (l.i ≤ l.n) × (l.start ≤ length l.files) × (q : Contents) × (state_of l.t ≡ settled q) × (after_all (remaining l.records l.files l.n l.i l.start) q ≡ present (calls l.records l.files))
-
-abbrev pub decreases-loop-i : goal.decreases-loop-i
-decreases-loop-i l = l.n - l.i
+    (l.start ≤ length l.files) × (q : Contents) × (state_of l.t ≡ settled q) × (after_all (remaining l.records l.files l.n l.i l.start) q ≡ present (calls l.records l.files))

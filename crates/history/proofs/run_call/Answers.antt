@@ -2,6 +2,7 @@
 use mathlib.Core.Path.{◌≡◌, sym, ap, subst, ◌∙◌}
 use Prim.Native.Nat.{ℕ}
 use mathlib.Core.List.{List}
+use native.Mathlib.Omega.{arith}
 use borrow.Author.Tests.{ne_eqb}
 use lib.IntN.{ℤ}
 use lib.ListN.{get_or}
@@ -21,59 +22,51 @@ use Rattle.history.proofs.run_call.Goals as goal
 numbered : {o op : ℕ} (w f : List ℕ) (q : Contents) → op ≡ o → settled (after (call_of o w f) q) ≡ settled (after (call_of op w f) q)
 numbered w f q e = ap (λ (k : ℕ). settled (after (call_of k w f) q)) (sym e)
 
-pub returns-then-op-eq0 : goal.returns-then-op-eq0
+pub returns-in-0 : goal.returns-in-0
 unfolding call_of
-returns-then-op-eq0 c q e =
-    let v = c in
-    let a = v.args in
+returns-in-0 c q e =
+    let a = c.args in
     let w = a.w in
-    let z = to_z-of_z {w = w32} {z = v.signed_long.result} (record { sfits = v.signed_long.type_inv }) ∙ v.signed_long.ensures in
-    replied (Add (get_or w 0 0) (get_or w 1 0) (signed 2147483648 (get_or w 2 0))) a.s _
-    (subst (λ (k : ℤ). Replies (Add (get_or w 0 0) (get_or w 1 0) k) a.s c.add-r.result) z c.add-r.ensures) q e
-    ∙ numbered w a.file.now q v.if-op-eq0.true
+    let z = to_z-of_z {w = w32} {z = c.signed.result} (record { sfits = c.signed.type_inv }) ∙ c.signed.ensures in
+    replied (Add (get_or w 0 0) (get_or w 1 0) (signed 2147483648 (get_or w 2 0))) a.s _ _
+    (subst (λ (k : ℤ). Replies (Add (get_or w 0 0) (get_or w 1 0) k) a.s c.add.result c.add.new.s) z c.add.ensures) q e
+    ∙ numbered w a.file.now q c.in-0.is
 
-pub returns-then-op-eq1 : goal.returns-then-op-eq1
+pub returns-in-1 : goal.returns-in-1
 unfolding call_of
-returns-then-op-eq1 c q e =
-    let v = c in
-    let a = v.args in
+returns-in-1 c q e =
+    let a = c.args in
     let w = a.w in
-    let z = to_z-of_z {w = w32} {z = v.signed_long-then-op-eq1.result} (record { sfits = v.signed_long-then-op-eq1.type_inv }) ∙ v.signed_long-then-op-eq1.ensures in
-    replied (Change (get_or w 0 0) (get_or w 1 0) (signed 2147483648 (get_or w 2 0))) a.s _
-    (subst (λ (k : ℤ). Replies (Change (get_or w 0 0) (get_or w 1 0) k) a.s c.change-r.result) z c.change-r.ensures) q e
-    ∙ numbered w a.file.now q v.if-op-eq1.true
+    let z = to_z-of_z {w = w32} {z = c.signed-in-1.result} (record { sfits = c.signed-in-1.type_inv }) ∙ c.signed-in-1.ensures in
+    replied (Change (get_or w 0 0) (get_or w 1 0) (signed 2147483648 (get_or w 2 0))) a.s _ _
+    (subst (λ (k : ℤ). Replies (Change (get_or w 0 0) (get_or w 1 0) k) a.s c.change.result c.change.new.s) z c.change.ensures) q e
+    ∙ numbered w a.file.now q c.in-1.is
 
-pub returns-then-op-eq2 : goal.returns-then-op-eq2
+pub returns-in-2 : goal.returns-in-2
 unfolding call_of
-returns-then-op-eq2 c q e =
-    let t = c in
-    let a = t.args in
-    replied (Drop (get_or a.w 0 0) (get_or a.w 1 0)) a.s _ c.drop-r.ensures q e ∙ numbered a.w a.file.now q t.if-op-eq2.true
+returns-in-2 c q e =
+    let a = c.args in
+    replied (Drop (get_or a.w 0 0) (get_or a.w 1 0)) a.s _ _ c.drop.ensures q e ∙ numbered a.w a.file.now q c.in-2.is
 
-pub returns-then-op-eq3 : goal.returns-then-op-eq3
+pub returns-in-3 : goal.returns-in-3
 unfolding call_of
-returns-then-op-eq3 c q e =
-    let t = c in
-    let a = t.args in
-    replied Clear a.s _ c.clear-r.ensures q e ∙ numbered a.w a.file.now q t.if-op-eq3.true
+returns-in-3 c q e =
+    let a = c.args in
+    replied Clear a.s _ _ c.clear.ensures q e ∙ numbered a.w a.file.now q c.in-3.is
 
-pub returns-then-op-eq4 : goal.returns-then-op-eq4
+pub returns-in-4 : goal.returns-in-4
 unfolding call_of
-returns-then-op-eq4 c q e =
-    let t = c in
-    let a = t.args in
-    replied (Load a.file.now) a.s _ c.load-r.ensures q e ∙ numbered a.w a.file.now q t.if-op-eq4.true
+returns-in-4 c q e =
+    let a = c.args in
+    replied (Load a.file.now) a.s _ _ c.load.ensures q e ∙ numbered a.w a.file.now q c.in-4.is
 
-pub returns : goal.returns
+pub returns-in_default : goal.returns-in_default
 unfolding call_of
-returns c q e =
-    let d = c in
-    let a = d.args in
-    rw (
-      ne_eqb a.op 0 d.if-op-eq0.false,
-      ne_eqb a.op 1 d.if-op-eq1.false,
-      ne_eqb a.op 2 d.if-op-eq2.false,
-      ne_eqb a.op 3 d.if-op-eq3.false,
-      ne_eqb a.op 4 c.if-op-eq4.false,
-    )
-    (e ∙ ap settled (sym (after_ask q)))
+returns-in_default c q e =
+    let a = c.args in
+    let n0 : a.op ≡ 0 → ⊥ = omega arith in
+    let n1 : a.op ≡ 1 → ⊥ = omega arith in
+    let n2 : a.op ≡ 2 → ⊥ = omega arith in
+    let n3 : a.op ≡ 3 → ⊥ = omega arith in
+    let n4 : a.op ≡ 4 → ⊥ = omega arith in
+    rw (ne_eqb a.op 0 n0, ne_eqb a.op 1 n1, ne_eqb a.op 2 n2, ne_eqb a.op 3 n3, ne_eqb a.op 4 n4) (e ∙ ap settled (sym (after_ask q)))

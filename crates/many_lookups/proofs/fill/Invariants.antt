@@ -1,7 +1,6 @@
 -- `fill` meets its contract: every lookup is accepted, and finds the next answer.
 -- The invariant: the lookups that are left are accepted, and the answers at the first i locations stand at the front of what was lent.
 use mathlib.Core.Path.{◌≡◌}
-use Prim.Native.Nat.{◌-◌, ◌≤◌}
 use mathlib.Core.List.{flat_map}
 use lib.ListN.{length, take, drop}
 use Rattle.model.specs.Lists.{laid}
@@ -12,8 +11,5 @@ use Rattle.many_lookups.proofs.fill.Given as goal
 
 abbrev pub invariant-loop-i : goal.invariant-loop-i
 invariant-loop-i l =
-    (l.i ≤ l.count) × (length l.out ≡ length l.initial.out) × (first_refusal (state_of l.s) (drop l.i (locations_in l.locations)) ≡ 0)
+    (length l.out ≡ length l.initial.out) × (first_refusal (state_of l.s) (drop l.i (locations_in l.locations)) ≡ 0)
     × (l.out ≡ laid (flat_map (answer_bytes (state_of l.s)) (take l.i (locations_in l.locations))) l.initial.out) × AllRight (state_of l.s) (take l.i (locations_in l.locations))
-
-abbrev pub decreases-loop-i : goal.decreases-loop-i
-decreases-loop-i l = l.count - l.i

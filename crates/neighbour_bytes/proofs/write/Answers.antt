@@ -1,9 +1,10 @@
 -- `write` meets its contract. The invariant: the bytes of the first i records stand at the front of what was lent.
-use mathlib.Core.Path.{◌≡◌, refl}
+use mathlib.Core.Path.{refl}
 use mathlib.Core.List.{flat_map}
 use Prim.Native.Nat.{◌*◌, ◌-◌}
 use native.Mathlib.Omega.{arith}
-use lib.ListN.{length}
+use lib.ListN.{length, take}
+use lib.Seq.{take_all, length-take-le}
 use Rattle.laws.proofs.Stores.{laid_more}
 use Rattle.neighbour_records.specs.Records.{no_record}
 use Rattle.neighbour_bytes.specs.Fields.{field_bytes, records_bytes}
@@ -11,21 +12,20 @@ use Rattle.neighbour_bytes.proofs.write.Goals as goal
 
 pub loop-i-init : goal.loop-i-init
 unfolding flat_map
-loop-i-init c = (omega arith, refl, refl)
+loop-i-init c = (refl, refl)
 
 pub loop-i-preserved : goal.loop-i-preserved
 loop-i-preserved c =
-    let q = c in
-    let r = q in
-    let l = r.loop-i in
-    let a = r.args in
-    let i = l.i in
-    let e = laid_more field_bytes 10 (λ _. refl) a.list no_record i (length l.out - 10 * i) a.out.now l.out (omega arith) (omega arith) l.invariant.2 in
-    (omega arith, omega arith, rw (q.copy.ensures.laid, r.fields-b.ensures) e)
+    let l = c.loop-i in
+    let a = c.args in
+    let items = take a.n a.list in
+    let size = length-take-le a.n a.list (omega arith) in
+    let e = laid_more field_bytes 10 (λ _. refl) items no_record l.i (length l.out - 10 * l.i) a.out.now l.out (omega (arith, size)) (omega arith) l.invariant.1 in
+    (omega arith, rw (c.copy.ensures.laid, c.fields.ensures) e)
 
 pub returns : goal.returns
 unfolding records_bytes
 returns c =
     let l = c.loop-i in
-    let e : l.i ≡ c.args.n = omega arith in
-    rw (← e) l.invariant.2
+    let items = take c.args.n c.args.list in
+    rw (take_all l.i items (omega (arith, length-take-le c.args.n c.args.list (omega arith)))) at l.invariant.1

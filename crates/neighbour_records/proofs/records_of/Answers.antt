@@ -21,4 +21,4 @@ pub returns : goal.returns
 returns c = λ s p C.
     let a = c.args.c in
     let e : c.loop-i.i ≡ a.count = omega arith in
-    record { size = omega (arith, C.size); items = rw (← same s p a C, ← e) c.loop-i.invariant.2 }
+    record { size = omega (arith, C.size); items = rw (← same s p a C, ← e) c.loop-i.invariant.1 }

@@ -1,19 +1,11 @@
--- `total` meets its contract: the sum so far and the sum of what is left make the whole.
-use Prim.Native.Nat.{◌<◌}
-use native.Mathlib.Omega.{arith}
-use lib.ListN.{length}
-use Rattle.numbers.proofs.Totals.{total_drop, total_end}
+-- `total` meets its contract: the library's sum is the model's total.
+use mathlib.Core.Path.{◌≡◌, ◌∙◌}
+use borrow.Author.Rules.{rules}
+use Rattle.std.specs.Prelude.{sum}
+use Rattle.numbers.proofs.Totals.{total_is}
 use Rattle.numbers.proofs.total.Goals as goal
-
-pub loop-i-preserved : goal.loop-i-preserved
-loop-i-preserved c =
-    let s = c.args.s.now in
-    let i = c.loop-i.i in
-    let h : i < length s = omega arith in
-    omega (arith, total_drop s i h)
 
 pub returns : goal.returns
 returns c =
-    let s = c.args.s.now in
-    let i = c.loop-i.i in
-    omega (arith, total_end s i (omega arith))
+    let e : c.sum.result ≡ sum c.args.s.now = search rules in
+    e ∙ total_is c.args.s.now

@@ -1,5 +1,5 @@
 -- `side` meets its contract. The invariant: the corners so far are the side of the first i points.
-use Prim.Native.Nat.{◌-◌, ◌≤◌}
+use Prim.Native.Nat.{◌≤◌}
 use mathlib.Core.Path.{◌≡◌}
 use mathlib.Core.List.{[]}
 use lib.ListN.{length}
@@ -10,7 +10,4 @@ use Rattle.polygon.proofs.side.Given as goal
 
 abbrev pub invariant-loop-i : goal.invariant-loop-i
 invariant-loop-i l =
-    (l.i ≤ l.m) × (l.depth ≤ l.i) × (length l.sx ≡ 256) × (length l.sy ≡ 256) × (stacked l.sx l.sy l.depth ≡ extend (turn_of l.up) [] (locations_in l.xs l.ys l.i))
-
-abbrev pub decreases-loop-i : goal.decreases-loop-i
-decreases-loop-i l = l.m - l.i
+    (l.depth ≤ l.i) × (length l.sx ≡ 256) × (length l.sy ≡ 256) × (stacked l.sx l.sy l.depth ≡ extend (turn_of l.up) [] (locations_in l.xs l.ys l.i))

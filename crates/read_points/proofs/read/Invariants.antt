@@ -1,10 +1,6 @@
 -- The invariant, `Passed`: the first i points are in the arrays, and what is left decides on the fault.
-use Prim.Native.Nat.{◌-◌}
 use Rattle.read_points.proofs.Passed.{Passed}
 use Rattle.read_points.proofs.read.Given as goal
 
 abbrev pub invariant-loop-i : goal.invariant-loop-i
 invariant-loop-i l = Passed l.s l.count l.r l.least l.i
-
-abbrev pub decreases-loop-i : goal.decreases-loop-i
-decreases-loop-i l = l.count - l.i

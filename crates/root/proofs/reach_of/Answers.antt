@@ -5,7 +5,6 @@ use native.Mathlib.Nat.{lt_of_not-le}
 use native.Mathlib.Omega.{arith}
 use mathlib.Core.Bool.{Bool, true, false}
 use lib.Dec.{leb}
-use borrow.Author.Rules.{rules}
 use borrow.Author.Tests.{leb-true, leb-false, le-leb, lt-leb}
 use Rattle.model.specs.Distance.{distance_of}
 use Rattle.laws.proofs.RootLaws.{sq_le, distance_le_iff}
@@ -30,13 +29,10 @@ square_fits : (r : ℕ) → r < 4294967296 → r * r + 2 * r < 18446744073709551
 square_fits r h = let g : r ≤ 4294967295 = omega arith in omega (arith, sq_le g)
 
 pub overflow_mul-k : goal.overflow_mul-k
-overflow_mul-k c = omega (arith, square_fits c.args.r (search rules))
+overflow_mul-k c = omega (arith, square_fits c.from-n.result (omega arith))
 
 pub overflow_add-k : goal.overflow_add-k
-overflow_add-k c = omega (arith, square_fits c.args.r (search rules))
-
-pub returns-then-k-lt-MOST : goal.returns-then-k-lt-MOST
-returns-then-k-lt-MOST c = λ d l. same_test d _ c.args.r (λ h. omega arith) (λ h. omega arith)
+overflow_add-k c = omega (arith, square_fits c.from-n.result (omega arith))
 
 pub returns : goal.returns
-returns c = λ d l. same_test d _ c.args.r (λ h. omega arith) (λ h. omega arith)
+returns c = λ d l. rw c.from-n.ensures at (same_test d c.min.result c.from-n.result (λ h. omega arith) (λ h. omega arith))

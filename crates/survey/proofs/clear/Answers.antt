@@ -9,4 +9,4 @@ use Rattle.survey.proofs.clear.Goals as goal
 
 pub returns : goal.returns
 unfolding contents_in points_in held tabulate refusal accepted
-returns c = reply_accepted Clear c.args.s 0 _ _ refl refl refl (λ _. refl) c.settled.ensures
+returns c = reply_accepted Clear c.args.s.now _ _ refl refl (λ _. refl) c.settled.ensures

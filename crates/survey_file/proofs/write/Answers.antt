@@ -7,7 +7,7 @@ use lib.ListN.{length, drop, length-append, length-drop}
 use lib.Seq.{take_at}
 use Rattle.model.specs.SurveyFile.{records, magic}
 use Rattle.point_arrays.specs.PointArrays.{points_in, held, wrapped}
-use Rattle.survey_file.specs.declared.Written.TheVariants.{Length}
+use Rattle.std.specs.Prelude.{Ok}
 use Rattle.survey_file.proofs.Encoded.{length_records_held, file_in, length_file_in}
 use Rattle.laws.proofs.Stores.{laid_after}
 use Rattle.survey_file.proofs.Fitting.{too_long, fitting}
@@ -39,6 +39,6 @@ returns c =
     let last = rw c.of_records-t.ensures at c.copy.ensures.laid in
     let lent : length d ≤ end + (length (r ++ drop end d) - end) = omega (arith, length-append r (drop end d), length-drop end d) in
     record {
-      value = ap Length (sym long) ∙ sym o.0;
+      value = ap (λ n. Ok n) (sym long) ∙ sym o.0;
       out_after = rw (o.1, file, last, sum, body) (laid_after end (length (r ++ drop end d) - end) r (_ ∷ _ ∷ _ ∷ _ ∷ _ ∷ _ ∷ _ ∷ _ ∷ magic) d sized lent);
     }

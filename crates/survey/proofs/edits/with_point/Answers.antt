@@ -38,4 +38,4 @@ returns c =
     let f = sound_fits a.x a.y a.z b.requires.2 in
     let e : Sized a.s.x a.s.y a.s.z = search rules in
     becomes_put a.s _ e a.i a.x a.y a.z b.requires.0 b.requires.1 f.fits_x f.fits_y
-    c.put_u16-a.ensures c.put_u16-b.ensures (rw (to_z-of_z b.ranges.z, to_z-of_z f.fits_z) at c.put_i8-c.ensures) refl
+    c.put-a.ensures c.put-b.ensures (rw (to_z-of_z b.ranges.z, to_z-of_z f.fits_z) at c.put-c.ensures) refl

@@ -17,5 +17,5 @@ returns c =
     let n = c in
     let a = n.args in
     let e : Sized a.s.x a.s.y a.s.z = search rules in
-    becomes_cut a.s _ e a.i n.requires c.cut_u16-a.ensures c.cut_u16-b.ensures c.cut_i8-c.ensures
+    becomes_cut a.s _ e a.i n.requires c.cut-a.ensures c.cut-b.ensures c.cut-c.ensures
     (ap (λ (m : ℕ). m - 1) n.clamped-n.ensures)

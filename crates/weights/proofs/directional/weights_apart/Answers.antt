@@ -13,4 +13,4 @@ returns c =
     let h = seen a.c in
     let s = c.factors-s.ensures in
     let total = c.sum_of-total.ensures ∙ sum_f_same _ (λ k. factor_f (h.influence k)) a.c.count s in
-    λ i l. weight_is h i c.requires.1 (c.loop-i.invariant.2 i (omega arith)) (s i l) (c.terms-t.ensures i l) total
+    λ i l. weight_is h i c.requires.1 (c.loop-i.invariant.1 i (omega arith)) (s i l) (c.terms-t.ensures i l) total

@@ -1,0 +1,3 @@
+-- Facts that the callers' proofs need.
+pub mod Coded
+pub mod Told

@@ -1,5 +1,0 @@
--- `main` ends: each turn is counted down.
-use Rattle.shepard_replay.proofs.main.Given as goal
-
-abbrev pub decreases-loop-turns : goal.decreases-loop-turns
-decreases-loop-turns l = l.turns
