@@ -24,7 +24,7 @@ pub fn write(list: [Record; 32], n: usize, out: &mut [u8])
     requires { (n ≤ 32) × (10 * n ≤ length out.old) }
     ensures { out.new ≡ laid (records_bytes (take n list)) out.old }
 {
-    for (i, a) in list[..n].iter().enumerate() {
-        numbers::copy(&fields(*a), &mut out[10 * i..]);
+    for i in 0..n {
+        numbers::copy(&fields(list[i]), &mut out[10 * i..]);
     }
 }

@@ -30,7 +30,11 @@ pub fn root_of(n: u64) -> u32
     let mut low = (n << 46 >> 32) as u32;
     let mut rest: u32 = 0;
     let mut root: u32 = 0;
-    for k in 0..25u32 {
+    let mut k: u32 = 0;
+    loop {
+        if k == 25 {
+            break root;
+        }
         let brought = 4 * rest + (high >> 30);
         let four = 4 * root;
         let taken = four + 1;
@@ -39,8 +43,8 @@ pub fn root_of(n: u64) -> u32
         root = 2 * root + bit;
         high = (high << 2) + (low >> 30);
         low = low << 2;
+        k += 1;
     }
-    root
 }
 
 // D of a squared distance. The C name is for whoever examines its machine code by itself.

@@ -65,8 +65,8 @@ pub fn records(io: &mut Streams, list: [Record; 32], m: usize)
     requires { m ≤ 32 }
 {
     print::word(io, b"records");
-    for r in &list[..m] {
-        record(io, *r);
+    for i in 0..m {
+        record(io, list[i]);
     }
     print::line_feed(io);
 }

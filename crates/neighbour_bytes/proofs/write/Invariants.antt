@@ -7,4 +7,4 @@ use Rattle.neighbour_bytes.specs.Fields.{field_bytes}
 use Rattle.neighbour_bytes.proofs.write.Given as goal
 
 abbrev pub invariant-loop-i : goal.invariant-loop-i
-invariant-loop-i l = (length l.out ≡ length l.initial.out) × (l.out ≡ laid (flat_map field_bytes (take l.i l.a-items)) l.initial.out)
+invariant-loop-i l = (length l.out ≡ length l.initial.out) × (l.out ≡ laid (flat_map field_bytes (take l.i l.list)) l.initial.out)

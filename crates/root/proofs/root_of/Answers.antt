@@ -57,47 +57,46 @@ ended : (n high low rest root : ℕ) → Found n high low rest root 25 → IsRoo
 ended n high low rest root f = (record { low = omega arith; high = omega arith }, omega arith)
 
 module _ (c : goal.After-bit_of-bit) where
-  went : Goes _ _ _ _ _ _ c.loop-k.invariant c.bit_of-bit.result
-  went = goes _ _ _ _ _ _ c.loop-k.invariant _ c.bit_of-bit.ensures
+  went : Goes _ _ _ _ _ _ c.loop-k.invariant.0 c.bit_of-bit.result
+  went = goes _ _ _ _ _ _ c.loop-k.invariant.0 _ c.bit_of-bit.ensures
 
 pub loop-k-init : goal.loop-k-init
-loop-k-init c = record { digits = omega arith; upper = omega arith; lower = omega arith; left = omega arith; small = omega arith }
+loop-k-init c = (record { digits = omega arith; upper = omega arith; lower = omega arith; left = omega arith; small = omega arith }, omega arith)
 
 pub overflow_mul-brought : goal.overflow_mul-brought
-overflow_mul-brought c = omega (arith, narrow _ _ _ _ _ _ c.loop-k.invariant (omega arith))
+overflow_mul-brought c = omega (arith, narrow _ _ _ _ _ _ c.loop-k.invariant.0 (omega arith))
 
 pub overflow_add-brought : goal.overflow_add-brought
-overflow_add-brought c = omega (arith, narrow _ _ _ _ _ _ c.loop-k.invariant (omega arith))
+overflow_add-brought c = omega (arith, narrow _ _ _ _ _ _ c.loop-k.invariant.0 (omega arith))
 
 pub overflow_mul-four : goal.overflow_mul-four
-overflow_mul-four c = omega (arith, narrow _ _ _ _ _ _ c.loop-k.invariant (omega arith))
+overflow_mul-four c = omega (arith, narrow _ _ _ _ _ _ c.loop-k.invariant.0 (omega arith))
 
 pub overflow_add-taken : goal.overflow_add-taken
-overflow_add-taken c = omega (arith, narrow _ _ _ _ _ _ c.loop-k.invariant (omega arith))
+overflow_add-taken c = omega (arith, narrow _ _ _ _ _ _ c.loop-k.invariant.0 (omega arith))
 
 pub bit_of-bit-requires : goal.bit_of-bit-requires
-bit_of-bit-requires c = omega (arith, narrow _ _ _ _ _ _ c.loop-k.invariant (omega arith))
+bit_of-bit-requires c = omega (arith, narrow _ _ _ _ _ _ c.loop-k.invariant.0 (omega arith))
 
 pub overflow_mul-rest : goal.overflow_mul-rest
-overflow_mul-rest c = omega (arith, narrow _ _ _ _ _ _ c.loop-k.invariant (omega arith), (went c).within)
+overflow_mul-rest c = omega (arith, narrow _ _ _ _ _ _ c.loop-k.invariant.0 (omega arith), (went c).within)
 
 pub overflow_sub-rest : goal.overflow_sub-rest
 overflow_sub-rest c = (went c).within
 
 pub overflow_mul-root : goal.overflow_mul-root
-overflow_mul-root c = omega (arith, narrow _ _ _ _ _ _ c.loop-k.invariant (omega arith))
+overflow_mul-root c = omega (arith, narrow _ _ _ _ _ _ c.loop-k.invariant.0 (omega arith))
 
 pub overflow_add-root : goal.overflow_add-root
-overflow_add-root c = omega (arith, narrow _ _ _ _ _ _ c.loop-k.invariant (omega arith), (went c).one)
+overflow_add-root c = omega (arith, narrow _ _ _ _ _ _ c.loop-k.invariant.0 (omega arith), (went c).one)
 
 pub overflow_add-high : goal.overflow_add-high
-overflow_add-high c = omega (arith, (next _ _ _ _ _ _ c.loop-k.invariant _ (went c)).upper)
+overflow_add-high c = omega (arith, (next _ _ _ _ _ _ c.loop-k.invariant.0 _ (went c)).upper)
 
 pub loop-k-preserved : goal.loop-k-preserved
-loop-k-preserved c = next _ _ _ _ _ _ c.loop-k.invariant _ (went c)
+loop-k-preserved c = (next _ _ _ _ _ _ c.loop-k.invariant.0 _ (went c), omega arith)
 
 pub returns : goal.returns
 returns c =
-    let e : c.loop-k.k ≡ 25 = omega arith in
-    let r = ended _ _ _ _ _ (subst (Found _ _ _ _ _) e c.loop-k.invariant) in
+    let r = ended _ _ _ _ _ (subst (Found _ _ _ _ _) c.if-k-eq25.true c.loop-k.invariant.0) in
     (is_root r.0, r.1)

@@ -1,6 +1,6 @@
 -- `root_of` meets its contract. The invariant: what is found is the root of the digits of n so far, with `rest` beside its square.
 use mathlib.Core.Path.{◌≡◌}
-use Prim.Native.Nat.{ℕ, ◌+◌, ◌*◌, ◌^◌, ◌≤◌, ◌<◌}
+use Prim.Native.Nat.{ℕ, ◌+◌, ◌-◌, ◌*◌, ◌^◌, ◌≤◌, ◌<◌}
 use Rattle.root.proofs.root_of.Given as goal
 
 -- k bits are found, from the first 2 k of the 50 digits of n; the words have the others, at their upper end
@@ -12,4 +12,7 @@ pub record Found (n high low rest root k : ℕ) : Type 0 where
   pub small : root < 2 ^ k
 
 abbrev pub invariant-loop-k : goal.invariant-loop-k
-invariant-loop-k l = Found l.n l.high l.low l.rest l.root l.k
+invariant-loop-k l = Found l.n l.high l.low l.rest l.root l.k × (l.k ≤ 25)
+
+abbrev pub decreases-loop-k : goal.decreases-loop-k
+decreases-loop-k l = 25 - l.k
